@@ -1,0 +1,27 @@
+-- The size of a grid: how many vertices it has, and into how many ranges they are cut.
+use Rattle.std.specs.Prelude.{ℕ, ◌+◌, ◌-◌, ◌*◌, ◌/◌, ◌^◌, ◌≤◌}
+use Rattle.gm_base.specs.declared.edge.Edge.{Edge}
+
+pub record Dimensions : Type 0 where
+  pub n : ℕ
+  pub parts : ℕ
+
+-- 1 to 2^20 vertices, 1 to 64 ranges, and no more ranges than vertices
+pub record AreDimensions (n parts : ℕ) : Type 0 where
+  pub some_vertex : 1 ≤ n
+  pub vertices : n ≤ 2 ^ 20
+  pub some_range : 1 ≤ parts
+  pub ranges : parts ≤ 64
+  pub no_more_ranges : parts ≤ n
+
+-- how many vertices a range has: n / parts, rounded up. Ranges at the end may be shorter or empty
+abbrev pub width_of : Dimensions → ℕ
+width_of d = (d.n + (d.parts - 1)) / d.parts
+
+-- the range of a vertex
+abbrev pub range_of : Dimensions → ℕ → ℕ
+range_of d v = v / width_of d
+
+-- the block of an edge: row by row, the row is the source's range and the column the destination's
+abbrev pub block_of : Dimensions → Edge → ℕ
+block_of d e = range_of d e.from * d.parts + range_of d e.to

@@ -1,0 +1,7 @@
+pub mod Graph
+pub mod Dimensions
+pub mod Kernels
+pub mod Runs
+pub mod Numbers
+pub mod Names
+pub mod Examples
