@@ -4,4 +4,5 @@ pub mod Kernels
 pub mod Runs
 pub mod Numbers
 pub mod Names
+pub mod Texts
 pub mod Examples

@@ -10,6 +10,8 @@ mod memory;
 mod name;
 mod numbers;
 mod shape;
+#[cfg(test)]
+mod tests;
 mod words;
 
 pub use edge::Edge;

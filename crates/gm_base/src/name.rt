@@ -1,6 +1,6 @@
 //! Names of jobs.
 
-ghost use Rattle.std.specs.Prelude.{◌≡◌, IfOk, IsTrue, IsFalse, ◌↔◌};
+ghost use Rattle.std.specs.Prelude.{◌≡◌, ◌≤◌, length, IfOk, IsTrue, IsFalse, ◌↔◌};
 ghost use Rattle.std.specs.Result.{IsErrOf};
 ghost use Rattle.std.specs.List.{list_all};
 ghost use Rattle.gm_base.specs.Names.{is_name, is_name_byte};
@@ -29,6 +29,11 @@ impl Model for Name {
     ghost Value = { List ℕ };
 
     ghost view = { λ a. a.bytes.items };
+
+    ghost use Rattle.std.specs.Prelude.{IsTrue};
+    ghost use Rattle.gm_base.specs.Names.{is_name};
+
+    ghost invariant = { λ a. IsTrue (is_name a.bytes.items) };
 }
 
 fn is_name_byte(byte: u8) -> bool
@@ -67,7 +72,9 @@ impl Name {
 
     /// The text of the name.
     pub fn as_slice(&self) -> &[u8]
-        ensures { result.now ≡ self.now }
+        ensures text { result.now ≡ self.now }
+        ensures name { IsTrue (is_name self.now) }
+        ensures short { length self.now ≤ 32 }
     {
         self.bytes.as_slice()
     }

@@ -1,6 +1,6 @@
 //! Numbers in decimal.
 
-ghost use Rattle.std.specs.Prelude.{◌≡◌, ◌++◌, length, drop, decimal, IsTrue};
+ghost use Rattle.std.specs.Prelude.{◌≡◌, ◌<◌, ◌≤◌, ◌^◌, ◌++◌, length, drop, decimal, IsTrue};
 ghost use Rattle.std.specs.List.{list_all};
 ghost use Rattle.std.specs.Char.{is_ascii_digit};
 ghost use Rattle.std.specs.Str.Parse.{digits_value};
@@ -51,6 +51,7 @@ pub fn number(text: &[u8], most: u64) -> Option<u64>
 /// Writes the decimal digits of the value, without leading zeros, to the front of `into`, and answers how many there are.
 pub fn digits(value: u128, into: &mut [u8; 39]) -> usize
     ensures count { result ≡ length (decimal value) }
+    ensures short { value < 2 ^ 64 → result ≤ 20 }
     ensures front { into.new ≡ decimal value ++ drop (length (decimal value)) into.old }
 {
     let mut buffer = Buffer::new();

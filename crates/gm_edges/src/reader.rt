@@ -1,0 +1,95 @@
+//! The reader of edge lists.
+
+ghost use Rattle.std.specs.Prelude.{◌≡◌, ◌≤◌, ◌^◌, ℕ, List, [], ◌++◌, length, Ok, Err, IfOk, IfErr, MatchResult, IsOk};
+ghost use Rattle.gm_base.specs.Graph.{IsGraph};
+ghost use Rattle.gm_edges.specs.EdgeText.{edge_list_of, ended_edges_of};
+ghost use Rattle.gm_edges.specs.Scanner.{HasRead, IsRefusedAs, IsUnlessMemory, after_bytes, answer_of};
+
+use crate::EdgeError;
+use crate::scanner::Scanner;
+use gm_base::Edges;
+use std::alloc::Global;
+use std::marker::Model;
+
+/// Reads an edge list that comes in pieces. It keeps the edges and a few numbers of the present line, and nothing of the text.
+/// After a refusal it stays refused.
+#[derive(Drop)]
+pub struct EdgeReader {
+    refusal: Option<EdgeError>,
+    scanner: Scanner,
+}
+
+impl Model for EdgeReader {
+    ghost use Rattle.std.specs.Prelude.{Result};
+    ghost use Rattle.gm_edges.specs.declared.error.EdgeError.{EdgeError};
+    ghost use Rattle.gm_edges.specs.declared.scanner.Scanner.{Scanner};
+    ghost use Rattle.gm_edges.specs.Scanner.{reader_of};
+
+    ghost Value = { Result Scanner EdgeError };
+
+    ghost view = { λ a. reader_of a.refusal a.scanner };
+}
+
+impl EdgeReader {
+    /// A reader that has read nothing yet, for a graph of n vertices. It takes no memory yet.
+    pub fn new(alloc: Global, n: u32) -> EdgeReader
+        requires some_vertex { 1 ≤ n }
+        requires vertices { n ≤ 2 ^ 20 }
+        ensures { HasRead n [] result }
+    {
+        EdgeReader {
+            refusal: None,
+            scanner: Scanner::new(alloc, n),
+        }
+    }
+
+    /// Reads on, where it isn't refused.
+    fn advance(&mut self, piece: &[u8]) -> Result<(), EdgeError>
+        ensures steps { IsUnlessMemory self.new (after_bytes self.old piece.now) }
+        ensures answer { MatchResult result (λ _. IsOk self.new) (λ refusal. self.new ≡ Err refusal) }
+        ensures stays { IfErr self.old (λ refusal. self.new ≡ Err refusal) }
+    {
+        if let Some(refusal) = self.refusal {
+            return Err(refusal);
+        }
+        let result = self.scanner.read(piece);
+        if let Err(refusal) = result {
+            self.refusal = Some(refusal);
+        }
+        result
+    }
+
+    /// Reads the next piece of the text. It is refused exactly where a line that has ended by then is refused, with the refusal of the
+    /// first of them, or where memory runs out. After a refusal each later call is refused in the same way.
+    pub fn feed(&mut self, piece: &[u8]) -> Result<(), EdgeError>
+        ensures reads { (n : ℕ) (text : List ℕ) → HasRead n text self.old → HasRead n (text ++ piece.now) self.new }
+        ensures refused { (n : ℕ) (text : List ℕ) → HasRead n text self.old
+            → IsRefusedAs result (ended_edges_of (text ++ piece.now) n) }
+        ensures decides { (n : ℕ) (text rest : List ℕ) → HasRead n text self.old
+            → IfErr result (λ refusal. IsUnlessMemory (Err refusal) (edge_list_of (text ++ piece.now ++ rest) n)) }
+        ensures answer { MatchResult result (λ _. IsOk self.new) (λ refusal. self.new ≡ Err refusal) }
+        ensures stays { IfErr self.old (λ refusal. (self.new ≡ Err refusal) × (result ≡ Err refusal)) }
+    {
+        self.advance(piece)
+    }
+
+    fn answer(self) -> Result<Edges, EdgeError>
+        ensures answer { IsUnlessMemory result (answer_of self) }
+        ensures stays { IfErr self (λ refusal. result ≡ Err refusal) }
+    {
+        match self.refusal {
+            Some(refusal) => Err(refusal),
+            None => self.scanner.finish(),
+        }
+    }
+
+    /// The list of edges of the whole text, or its first refusal. Memory may run out at the last line.
+    pub fn finish(self) -> Result<Edges, EdgeError>
+        ensures answer { (n : ℕ) (text : List ℕ) → HasRead n text self → IsUnlessMemory result (edge_list_of text n) }
+        ensures graph { (n : ℕ) (text : List ℕ) → HasRead n text self → IfOk result (IsGraph n) }
+        ensures few { (n : ℕ) (text : List ℕ) → HasRead n text self → IfOk result (λ edges. length edges ≤ 2 ^ 24) }
+        ensures stays { IfErr self (λ refusal. result ≡ Err refusal) }
+    {
+        self.answer()
+    }
+}

@@ -1,0 +1,90 @@
+//! Texts over four vertices, each cut at every place into two pieces. The expected answers were worked out by hand from the format.
+
+ghost use Rattle.std.specs.Prelude.{◌++◌};
+ghost use Rattle.gm_edges.specs.EdgeText.{edge_list_of};
+ghost use Rattle.gm_edges.specs.Scanner.{IsUnlessMemory};
+
+use crate::{EdgeError, EdgeReader};
+use gm_base::{Edge, Edges};
+use std::alloc::Global;
+
+/// What a reader answers that is fed a text in two pieces: the clauses of the reader's calls say that it's the text's list of edges.
+fn read_in_two(alloc: Global, front: &[u8], back: &[u8]) -> Result<Edges, EdgeError>
+    ensures { IsUnlessMemory result (edge_list_of (front.now ++ back.now) 4) }
+{
+    let mut reader = EdgeReader::new(alloc, 4);
+    if let Err(refusal) = reader.feed(front) {
+        return Err(refusal);
+    }
+    if let Err(refusal) = reader.feed(back) {
+        return Err(refusal);
+    }
+    reader.finish()
+}
+
+/// What a reader answers that is fed a text cut at this place.
+fn read_cut(alloc: Global, text: &[u8], cut: usize) -> Option<Result<Edges, EdgeError>> {
+    let (front, back) = text.split_at_checked(cut)?;
+    Some(read_in_two(alloc, front, back))
+}
+
+const fn edge(from: u32, to: u32, weight: u32) -> Edge {
+    Edge { from, to, weight }
+}
+
+#[test]
+fn lists_edges_however_cut(rt: HostRuntime) {
+    let rows: [(&[u8], &[Edge]); 10] = [
+        (
+            b"# Nodes: 4 Edges: 4\r\n0\t1\r\n1\t2\r\n0\t2\t5\r\n2\t3",
+            &[edge(0, 1, 1), edge(1, 2, 1), edge(0, 2, 5), edge(2, 3, 1)],
+        ),
+        (b"", &[]),
+        (b"#", &[]),
+        (b"\n \r\n\t#0 1\n", &[]),
+        (b"0\r1", &[edge(0, 1, 1)]),
+        (b"003 00 07\n", &[edge(3, 0, 7)]),
+        (b"00000000000000000003 1", &[edge(3, 1, 1)]),
+        (b"2 2\n2 2\n", &[edge(2, 2, 1), edge(2, 2, 1)]),
+        (b"0 1 4294967295", &[edge(0, 1, 4294967295)]),
+        (b" 0 1 0 ", &[edge(0, 1, 0)]),
+    ];
+    for (text, expected) in rows {
+        for cut in 0..=text.len() {
+            let answer = read_cut(rt.alloc(), text, cut);
+            let is_expected = match &answer {
+                Some(Ok(edges)) => edges.as_slice() == expected,
+                _ => false,
+            };
+            assert!(rt; is_expected, "{text:?} cut at {cut}");
+        }
+    }
+}
+
+#[test]
+fn refuses_however_cut(rt: HostRuntime) {
+    let rows: [(&[u8], EdgeError); 12] = [
+        (b"0 1\n1 x\n", EdgeError::BadLine { line: 2 }),
+        (b"0 4", EdgeError::NoVertex { line: 1 }),
+        (b"0", EdgeError::BadLine { line: 1 }),
+        (b"0 1 2 3", EdgeError::BadLine { line: 1 }),
+        (b"0 1 4294967296", EdgeError::BadLine { line: 1 }),
+        (b"000000000000000000003 1", EdgeError::BadLine { line: 1 }),
+        (b"18446744073709551616 1", EdgeError::BadLine { line: 1 }),
+        (b"18446744073709551615 1", EdgeError::NoVertex { line: 1 }),
+        (b"0\x001 2", EdgeError::BadLine { line: 1 }),
+        (b"0 #1", EdgeError::BadLine { line: 1 }),
+        (b"9 9 x\n", EdgeError::BadLine { line: 1 }),
+        (b"#\n\n9 9\nx", EdgeError::NoVertex { line: 3 }),
+    ];
+    for (text, expected) in rows {
+        for cut in 0..=text.len() {
+            let answer = read_cut(rt.alloc(), text, cut);
+            let is_expected = match &answer {
+                Some(Err(refusal)) => *refusal == expected,
+                _ => false,
+            };
+            assert!(rt; is_expected, "{text:?} cut at {cut}");
+        }
+    }
+}

@@ -1,0 +1,5 @@
+pub mod Format
+pub mod Refusals
+pub mod Ranges
+pub mod Room
+pub mod Examples

@@ -1,0 +1,3 @@
+pub mod Activity
+pub mod Laws
+pub mod Least

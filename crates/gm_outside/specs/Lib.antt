@@ -1,0 +1,5 @@
+pub mod Causes
+pub mod FileList
+pub mod Files
+pub mod Growth
+pub mod Memory

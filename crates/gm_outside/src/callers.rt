@@ -1,0 +1,79 @@
+//! What callers learn from the contracts of several calls, one after the other.
+ghost use Rattle.std.specs.Prelude.{◌≡◌, ◌++◌, [], ◌∷◌, Some, None, IfSome, IfOk, OnOk, OnErr, IsErrOf, IsTrue};
+ghost use Rattle.std.specs.FinMap as map;
+ghost use Rattle.gm_outside.specs.Causes.{counted, HasCause};
+ghost use Rattle.gm_outside.specs.Growth.{GrewBy, GrewByPrefix};
+ghost use Rattle.gm_outside.specs.Memory.{next_limit};
+
+use crate::mem_depot::MemDepot;
+use crate::mem_sink::MemSink;
+use crate::reading::read_whole;
+use crate::traits::{Depot, Sink, Trouble};
+use std::alloc::Global;
+use std::test::Fail;
+
+type Pair = (Vec<u8>, Vec<u8>);
+
+// What a caller learns of two files that it reads one after the other.
+fn read_two<D: Depot>(
+    alloc: Global,
+    depot: &mut D,
+    first: &str,
+    second: &str,
+) -> Result<Option<Pair>, Trouble>
+    ensures bytes { IfSome (D.files depot.old) (λ files. IfOk result (λ both. IfSome both (λ pair.
+        (map.get files first.now ≡ Some pair.0.items) × (map.get files second.now ≡ Some pair.1.items)))) }
+    ensures cause { HasCause Trouble.Failed (D.faults depot.old) (D.faults depot.new) result }
+    ensures calm { IsTrue (D.calm depot.old) → IsErrOf result Trouble.Failed → ⊥ }
+    ensures files_kept { D.files depot.new ≡ D.files depot.old }
+{
+    let Some(first_size) = depot.size(first)? else {
+        return Ok(None);
+    };
+    let Some(second_size) = depot.size(second)? else {
+        return Ok(None);
+    };
+    let first_bytes = read_whole(alloc, depot, first, first_size)?;
+    let second_bytes = read_whole(alloc, depot, second, second_size)?;
+    Ok(Some((first_bytes, second_bytes)))
+}
+
+// What a caller learns of two pieces that it writes one after the other.
+#[tactic(auto, using(crate::specs::Growth::growth))]
+fn write_two<K: Sink>(sink: &mut K, first: &[u8], second: &[u8]) -> Result<(), Trouble>
+    ensures ok { OnOk result (GrewBy (K.written sink.old) (K.written sink.new) (first.now ++ second.now)) }
+    ensures err { OnErr result (GrewByPrefix (K.written sink.old) (K.written sink.new) (first.now ++ second.now)) }
+    ensures fault { HasCause Trouble.Failed (K.faults sink.old) (K.faults sink.new) result }
+    ensures lack { HasCause Trouble.Memory (K.lacks sink.old) (K.lacks sink.new) result }
+{
+    sink.write(first)?;
+    sink.write(second)?;
+    Ok(())
+}
+
+fn definitions()
+    ensures next { counted 7 ≡ 8 }
+    ensures last { counted 18446744073709551615 ≡ 18446744073709551615 }
+    ensures limited { next_limit (record { written = []; fails = (2, 3) ∷ (2, 4) ∷ []; writes = 1; faults = 0; lacks = 0 }) ≡ Some 3 }
+    ensures free { next_limit (record { written = []; fails = (2, 3) ∷ []; writes = 2; faults = 0; lacks = 0 }) ≡ None }
+{}
+
+#[test]
+fn over_memory(rt: HostRuntime) -> Result<(), Fail> {
+    definitions();
+    let alloc = rt.alloc();
+    let mut depot = MemDepot::new(alloc, Vec::new(alloc));
+    depot.put("a", b"ab".as_slice())?;
+    depot.put("b", b"c".as_slice())?;
+    let Some((first, second)) = read_two(alloc, &mut depot, "a", "b")? else {
+        return Err(Fail::from("a file is missing"));
+    };
+    assert_eq!(rt; first.as_slice(), b"ab".as_slice());
+    assert_eq!(rt; second.as_slice(), b"c".as_slice());
+    assert_eq!(rt; depot.reads(), 2);
+
+    let mut sink = MemSink::new(alloc, Vec::new(alloc));
+    write_two(&mut sink, &first, &second)?;
+    assert_eq!(rt; sink.written(), b"abc".as_slice());
+    Ok(())
+}

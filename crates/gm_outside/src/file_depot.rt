@@ -1,0 +1,146 @@
+//! A depot over real files. Nothing is proved of what a file holds: it is the edge that is trusted.
+ghost use Rattle.std.specs.Prelude.{◌≡◌, ◌+◌, ◌≤◌, None, false, IsErrOf, IfErr};
+ghost use Rattle.gm_outside.specs.Causes.{Rose};
+
+use crate::traits::{Depot, Trouble};
+use std::fs::{File, OpenFile};
+use std::io::{ErrorKind, Read, Seek, SeekFrom};
+use std::rt::Files;
+use std::{fs, io};
+
+/// The regular files of a runtime, by their paths. It doesn't tell what they hold.
+///
+/// A folder, or anything else that isn't a regular file, is a fault.
+#[derive(Drop)]
+pub struct FileDepot<R> {
+    rt: R,
+    reads: u64,
+    faults: u64,
+}
+
+impl<R: Files + Drop> FileDepot<R> {
+    /// A depot over the files of `rt`, with no call and no fault so far.
+    pub fn new(rt: R) -> FileDepot<R>
+        ensures reads { ⟦<FileDepot<R> as Depot>⟧.reads result ≡ 0 }
+        ensures faults { ⟦<FileDepot<R> as Depot>⟧.faults result ≡ 0 }
+    {
+        FileDepot {
+            rt,
+            reads: 0,
+            faults: 0,
+        }
+    }
+
+    /// Counts an error as a fault, unless it is want of memory.
+    fn trouble(&mut self, error: io::Error) -> Trouble
+        ensures reads { self.new.reads ≡ self.old.reads }
+        ensures later { self.old.faults ≤ self.new.faults }
+        ensures failed { result ≡ Trouble.Failed → Rose self.old.faults self.new.faults }
+    {
+        if error.kind() == ErrorKind::OutOfMemory {
+            return Trouble::Memory;
+        }
+        self.faults = self.faults.saturating_add(1);
+        Trouble::Failed
+    }
+
+    fn file_size(&self, name: &str) -> io::Result<Option<u64>> {
+        match fs::metadata(&self.rt, name) {
+            Ok(metadata) if metadata.is_file() => Ok(Some(metadata.len())),
+            Ok(_) => Err(io::Error::from(ErrorKind::InvalidInput)),
+            Err(error) if error.kind() == ErrorKind::NotFound => Ok(None),
+            Err(error) => Err(error),
+        }
+    }
+
+    fn read_range(&self, name: &str, pos: u64, into: &mut [u8]) -> io::Result<()> {
+        let mut file = File::open(&self.rt, name)?;
+        let metadata = file.metadata()?;
+        if !metadata.is_file() {
+            return Err(io::Error::from(ErrorKind::InvalidInput));
+        }
+        if metadata.len() < pos || metadata.len() - pos < into.len() as u64 {
+            return Err(io::Error::from(ErrorKind::UnexpectedEof));
+        }
+        file.seek(SeekFrom::Start(pos))?;
+        file.read_exact(into)
+    }
+}
+
+impl<R: Files + Drop> Depot for FileDepot<R> {
+    ghost files = { λ _. None };
+
+    ghost calm = { λ _. false };
+
+    ghost faults = { λ depot. depot.faults };
+
+    ghost reads = { λ depot. depot.reads };
+
+    ghost calm_tells = { λ _ h. h };
+
+    fn size(&mut self, name: &str) -> Result<Option<u64>, Trouble> {
+        match self.file_size(name) {
+            Ok(size) => Ok(size),
+            Err(error) => Err(self.trouble(error)),
+        }
+    }
+
+    fn read_at(&mut self, name: &str, pos: u64, into: &mut [u8]) -> Result<(), Trouble> {
+        self.reads = self.reads.saturating_add(1);
+        match self.read_range(name, pos, into) {
+            Ok(()) => Ok(()),
+            Err(error) => Err(self.trouble(error)),
+        }
+    }
+}
+
+#[cfg(test)]
+mod tests {
+    use super::FileDepot;
+    use crate::reading::read_whole;
+    use crate::traits::{Depot, Trouble};
+    use std::fs;
+    use std::test::Fail;
+
+    #[test]
+    fn real_files(rt: HostRuntime) -> Result<(), Fail> {
+        fs::create_dir_all(&rt, "file_depot/sub")?;
+        fs::write(&rt, "file_depot/sub/part.bin", b"abcdef".as_slice())?;
+        fs::write(&rt, "file_depot/empty.bin", b"".as_slice())?;
+        let mut depot = FileDepot::new(rt.clone()?);
+        assert_eq!(rt; depot.size("file_depot/none.bin"), Ok(None));
+        assert_eq!(rt; depot.size("file_depot/sub/part.bin"), Ok(Some(6)));
+        assert_eq!(rt; depot.size("file_depot/empty.bin"), Ok(Some(0)));
+        assert_eq!(rt; depot.size("file_depot/sub"), Err(Trouble::Failed));
+
+        let mut part = [0u8; 3];
+        assert_eq!(rt;
+            depot.read_at("file_depot/sub/part.bin", 2, &mut part),
+            Ok(())
+        );
+        assert_eq!(rt; part.as_slice(), b"cde".as_slice());
+        let ranges = [
+            ("file_depot/sub/part.bin", 6, 0, Ok(())),
+            ("file_depot/sub/part.bin", 7, 0, Err(Trouble::Failed)),
+            ("file_depot/sub/part.bin", 4, 3, Err(Trouble::Failed)),
+            ("file_depot/empty.bin", 0, 0, Ok(())),
+            ("file_depot/none.bin", 0, 0, Err(Trouble::Failed)),
+            ("file_depot/sub", 0, 0, Err(Trouble::Failed)),
+        ];
+        for (name, pos, count, want) in ranges {
+            let mut into = [0u8; 3];
+            assert_eq!(rt;
+                depot.read_at(name, pos, &mut into[..count]),
+                want,
+                "{name} at {pos}"
+            );
+        }
+
+        let whole = read_whole(rt.alloc(), &mut depot, "file_depot/sub/part.bin", 6);
+        assert_eq!(rt;
+            whole.is_ok_and(|bytes| bytes.as_slice() == b"abcdef".as_slice()),
+            true
+        );
+        Ok(())
+    }
+}

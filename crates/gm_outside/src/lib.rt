@@ -1,0 +1,22 @@
+//! The outside of the program: depots of files, sinks of bytes and the gate before a pass.
+#![tactic(auto)]
+
+#[cfg(test)]
+mod callers;
+mod file_depot;
+mod file_list;
+mod gates;
+mod mem_depot;
+mod mem_sink;
+mod reading;
+mod traits;
+mod write_sink;
+mod writing;
+
+pub use file_depot::FileDepot;
+pub use gates::OpenGate;
+pub use mem_depot::{Call, MemDepot};
+pub use mem_sink::MemSink;
+pub use reading::read_whole;
+pub use traits::{Depot, Gate, Sink, Trouble};
+pub use write_sink::WriteSink;

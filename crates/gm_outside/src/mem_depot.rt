@@ -1,0 +1,209 @@
+//! A depot in memory, whose calls fail exactly where they are told to.
+ghost use Rattle.std.specs.Prelude.{◌≡◌, ◌↔◌, ◌≤◌, List, ℕ, Bool, Option, Some, length, Contains, IsTrue, IsSome, IsOk, IsErr, IfSome, IfOk, OnOk, OnErr, IfErr, IsErrOf, is_ok, refl, if◌then◌else◌};
+ghost use Rattle.std.specs.Option.{option_copied};
+ghost use Rattle.std.specs.FinMap as map;
+ghost use Rattle.gm_outside.specs.Causes.{counted, HasCause};
+ghost use Rattle.gm_outside.specs.Files.{Files, size_of, HasRange, HasBytesAt};
+
+use crate::file_list::FileList;
+use crate::traits::{Depot, Trouble};
+use std::alloc::{AllocError, Global};
+use std::marker::Model;
+
+/// A call of a depot that can be made to fail.
+#[derive(Clone, Copy, Debug, PartialEq, Eq)]
+pub enum Call {
+    Size,
+    Read,
+}
+
+/// Files in memory. A call fails exactly where its kind and its number, counted from 1 for each kind,
+/// are listed, or where `read_at` finds no such range. It never wants memory.
+#[derive(Drop)]
+pub struct MemDepot {
+    files: FileList,
+    fails: Vec<(Call, u64)>,
+    sizes: u64,
+    reads: u64,
+    faults: u64,
+}
+
+impl Model for MemDepot {
+    ghost use Rattle.gm_outside.specs.contracts.mem_depot.Call as call;
+    ghost use Rattle.gm_outside.specs.Memory.{DepotState, state_code};
+
+    ghost Value = { DepotState };
+
+    ghost coded = { state_code call.the_row.coded };
+
+    ghost view = { λ depot. record { files = depot.files; fails = depot.fails.items; sizes = depot.sizes; reads = depot.reads; faults = depot.faults } };
+}
+
+impl MemDepot {
+    /// A depot without files, whose listed calls fail.
+    pub fn new(alloc: Global, fails: Vec<(Call, u64)>) -> MemDepot
+        ensures { result ≡ record { files = map.empty; fails = fails.items; sizes = 0; reads = 0; faults = 0 } }
+    {
+        MemDepot {
+            files: FileList::new(alloc),
+            fails,
+            sizes: 0,
+            reads: 0,
+            faults: 0,
+        }
+    }
+
+    /// Stores a whole file in place of one of its name. It fails only for want of memory.
+    pub fn put(&mut self, name: &str, bytes: &[u8]) -> Result<(), AllocError>
+        ensures ok { OnOk result (self.new ≡ record self.old { files = map.insert self.old.files name.now bytes.now }) }
+        ensures err { OnErr result (self.new ≡ self.old) }
+    {
+        self.files.put(name, bytes)
+    }
+
+    /// The bytes of a file.
+    pub fn file(&self, name: &str) -> Option<&[u8]>
+        ensures { option_copied result ≡ map.get self.now.files name.now }
+    {
+        self.files.get(name)
+    }
+
+    /// How often `read_at` was called.
+    pub fn reads(&self) -> u64
+        ensures { result ≡ self.now.reads }
+    {
+        self.reads
+    }
+
+    /// How many calls failed.
+    pub fn faults(&self) -> u64
+        ensures { result ≡ self.now.faults }
+    {
+        self.faults
+    }
+
+    fn is_made_to_fail(&self, call: Call, number: u64) -> bool
+        ensures { IsTrue result ↔ Contains self.now.fails (call, number) }
+    {
+        self.fails.contains(&(call, number))
+    }
+
+    fn fault(&mut self) -> Trouble
+        ensures trouble { result ≡ Trouble.Failed }
+        ensures after { self.new ≡ record self.old { faults = counted self.old.faults } }
+        ensures later { self.old.faults ≤ self.new.faults }
+    {
+        self.faults = self.faults.saturating_add(1);
+        Trouble::Failed
+    }
+}
+
+impl Depot for MemDepot {
+    ghost use Rattle.gm_outside.specs.Memory.{is_calm};
+
+    ghost files = { λ depot. Some depot.files };
+
+    ghost calm = { is_calm };
+
+    ghost faults = { λ depot. depot.faults };
+
+    ghost reads = { λ depot. depot.reads };
+
+    ghost calm_tells = { λ _ _. refl };
+
+    fn size(&mut self, name: &str) -> Result<Option<u64>, Trouble>
+        ensures fails { IsErr result ↔ Contains self.old.fails (Call.Size, counted self.old.sizes) }
+        ensures ok { IfOk result (λ size. size ≡ size_of self.old.files name.now) }
+        ensures err { IfErr result (λ trouble. trouble ≡ Trouble.Failed) }
+        ensures cause { HasCause Trouble.Failed self.old.faults self.new.faults result }
+        ensures after { self.new ≡ record self.old {
+          sizes = counted self.old.sizes;
+          faults = if is_ok result then self.old.faults else counted self.old.faults;
+        } }
+    {
+        let number = self.sizes.saturating_add(1);
+        self.sizes = number;
+        if self.is_made_to_fail(Call::Size, number) {
+            return Err(self.fault());
+        }
+        Ok(self.files.get(name).map(|bytes| bytes.len() as u64))
+    }
+
+    fn read_at(&mut self, name: &str, pos: u64, into: &mut [u8]) -> Result<(), Trouble>
+        ensures listed { Contains self.old.fails (Call.Read, counted self.old.reads) → IsErr result }
+        ensures ok { OnOk result (HasBytesAt self.old.files name.now pos into.new) }
+        ensures works { HasRange self.old.files name.now pos (length into.old)
+            → (Contains self.old.fails (Call.Read, counted self.old.reads) → ⊥) → IsOk result }
+        ensures err { IfErr result (λ trouble. trouble ≡ Trouble.Failed) }
+        ensures cause { HasCause Trouble.Failed self.old.faults self.new.faults result }
+        ensures after { self.new ≡ record self.old {
+          reads = counted self.old.reads;
+          faults = if is_ok result then self.old.faults else counted self.old.faults;
+        } }
+    {
+        let number = self.reads.saturating_add(1);
+        self.reads = number;
+        if self.is_made_to_fail(Call::Read, number) {
+            return Err(self.fault());
+        }
+        match self.files.range(name, pos, into.len()) {
+            Some(bytes) => {
+                into.copy_from_slice(bytes);
+                Ok(())
+            }
+            None => Err(self.fault()),
+        }
+    }
+}
+
+#[cfg(test)]
+mod tests {
+    use super::{Call, MemDepot};
+    use crate::reading::read_whole;
+    use crate::traits::{Depot, Trouble};
+    use std::test::Fail;
+
+    #[test]
+    fn fails_where_told(rt: HostRuntime) -> Result<(), Fail> {
+        let fails = vec![in rt.alloc(); (Call::Size, 2), (Call::Read, 3)]?;
+        let mut depot = MemDepot::new(rt.alloc(), fails);
+        depot.put("a", b"old".as_slice())?;
+        depot.put("b", b"".as_slice())?;
+        depot.put("a", b"abcdef".as_slice())?;
+        assert!(rt;
+            depot
+                .file("a")
+                .is_some_and(|bytes| bytes == b"abcdef".as_slice())
+        );
+        assert!(rt; depot.file("b").is_some_and(|bytes| bytes.is_empty()));
+        assert!(rt; depot.file("c").is_none());
+
+        assert_eq!(rt; depot.size("a"), Ok(Some(6)));
+        assert_eq!(rt; depot.size("a"), Err(Trouble::Failed));
+        assert_eq!(rt; depot.size("c"), Ok(None));
+        assert_eq!(rt; depot.faults(), 1);
+
+        let whole = read_whole(rt.alloc(), &mut depot, "a", 6);
+        assert!(rt; whole.is_ok_and(|bytes| bytes.as_slice() == b"abcdef".as_slice()));
+        let reads = [
+            ("a", 3, 3, Ok(())),
+            ("a", 3, 3, Err(Trouble::Failed)),
+            ("a", 4, 3, Err(Trouble::Failed)),
+            ("a", 6, 0, Ok(())),
+            ("a", 7, 0, Err(Trouble::Failed)),
+            ("b", 0, 0, Ok(())),
+            ("c", 0, 0, Err(Trouble::Failed)),
+        ];
+        for (name, pos, count, want) in reads {
+            let mut into = [0u8; 3];
+            assert_eq!(rt;
+                depot.read_at(name, pos, &mut into[..count]),
+                want,
+                "{name} at {pos}"
+            );
+        }
+        assert_eq!(rt; depot.reads(), 8);
+        assert_eq!(rt; depot.faults(), 5);
+        Ok(())
+    }
+}

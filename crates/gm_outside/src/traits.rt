@@ -1,0 +1,88 @@
+//! What the program asks of the outside: files by their names, a place for what it writes, and a gate.
+ghost use Rattle.std.specs.Prelude.{◌≡◌, ℕ, Bool, List, [], Option, length, IsTrue, IsSome, IsOk, IfSome, IfOk, OnOk, OnErr, IsErrOf};
+ghost use Rattle.gm_outside.specs.Causes.{counted, HasCause};
+ghost use Rattle.gm_outside.specs.Files.{Files, size_of, HasRange, HasBytesAt};
+ghost use Rattle.gm_outside.specs.Growth.{GrewBy, GrewByPrefix};
+ghost use Rattle.gm_outside.specs.declared.traits.Trouble.TheVariants.{Memory};
+
+use std::alloc::AllocError;
+
+/// Why a call on the outside gave up: it failed, or found no memory.
+#[derive(Clone, Copy, Debug, PartialEq, Eq)]
+pub enum Trouble {
+    Failed,
+    Memory,
+}
+
+impl From<AllocError> for Trouble {
+    ghost from_gives = { λ _ trouble. trouble ≡ Memory };
+
+    fn from(_error: AllocError) -> Trouble {
+        Trouble::Memory
+    }
+}
+
+/// A store of files, by their names. Names and contents are seen as bytes.
+///
+/// `files` are the files, where the depot tells them. A `calm` depot tells them and never fails
+/// without a reason that they show. `faults` counts failures and `reads` the calls of `read_at`;
+/// both stop at the end of a `u64`.
+pub trait Depot: Drop {
+    ghost files: { Self → Option Files };
+
+    ghost calm: { Self → Bool };
+
+    ghost faults: { Self → ℕ };
+
+    ghost reads: { Self → ℕ };
+
+    /// The length of a file in bytes, or `None` where there is no such file.
+    fn size(&mut self, name: &str) -> Result<Option<u64>, Trouble>
+        ensures size { IfSome (files self.old) (λ held. IfOk result (λ size. size ≡ size_of held name.now)) }
+        ensures cause { HasCause Trouble.Failed (faults self.old) (faults self.new) result }
+        ensures calm { IsTrue (calm self.old) → IsErrOf result Trouble.Failed → ⊥ }
+        ensures files_kept { files self.new ≡ files self.old }
+        ensures calm_kept { calm self.new ≡ calm self.old }
+        ensures reads_kept { reads self.new ≡ reads self.old };
+
+    /// Fills `into` with the bytes of a file from `pos` on.
+    ///
+    /// It fails where the file is missing or doesn't hold the whole range, also where `into` is empty.
+    /// After a refusal `into` may hold anything.
+    fn read_at(&mut self, name: &str, pos: u64, into: &mut [u8]) -> Result<(), Trouble>
+        ensures bytes { IfSome (files self.old) (λ held. OnOk result (HasBytesAt held name.now pos into.new)) }
+        ensures cause { HasCause Trouble.Failed (faults self.old) (faults self.new) result }
+        ensures calm { IsTrue (calm self.old)
+            → IfSome (files self.old) (λ held. HasRange held name.now pos (length into.old)
+            → IsErrOf result Trouble.Failed → ⊥) }
+        ensures files_kept { files self.new ≡ files self.old }
+        ensures calm_kept { calm self.new ≡ calm self.old }
+        ensures reads { reads self.new ≡ counted (reads self.old) };
+
+    ghost calm_tells: { (depot : Self) → IsTrue (calm depot) → IsSome (files depot) };
+}
+
+/// A place for bytes that are written one after the other.
+///
+/// `written` are the bytes that it holds, where it tells them. `faults` counts failures and `lacks`
+/// the pieces that found no memory; both stop at the end of a `u64`.
+pub trait Sink {
+    ghost written: { Self → Option (List ℕ) };
+
+    ghost faults: { Self → ℕ };
+
+    ghost lacks: { Self → ℕ };
+
+    /// Adds a piece, or after a refusal only some first bytes of it. An empty piece is never refused.
+    fn write(&mut self, piece: &[u8]) -> Result<(), Trouble>
+        ensures ok { OnOk result (GrewBy (written self.old) (written self.new) piece.now) }
+        ensures err { OnErr result (GrewByPrefix (written self.old) (written self.new) piece.now) }
+        ensures fault { HasCause Trouble.Failed (faults self.old) (faults self.new) result }
+        ensures lack { HasCause Trouble.Memory (lacks self.old) (lacks self.new) result }
+        ensures empty { piece.now ≡ [] → IsOk result };
+}
+
+/// What a job passes before it goes over a chunk, by their numbers. It changes nothing.
+pub trait Gate {
+    fn passing(&self, job: u32, chunk: u32);
+}

@@ -1,0 +1,67 @@
+//! A sink over any writer.
+ghost use Rattle.std.specs.Prelude.{◌≡◌};
+
+use crate::traits::{Sink, Trouble};
+use crate::writing::write_piece;
+use std::io::Write;
+
+/// A sink that hands each piece to a writer, by as many writes as it takes. It holds what the writer
+/// tells, counts the pieces that the writer didn't take whole, and never wants memory.
+#[derive(Drop)]
+pub struct WriteSink<W> {
+    writer: W,
+    faults: u64,
+}
+
+impl<W: Write + Drop> WriteSink<W> {
+    /// A sink without faults over this writer.
+    pub fn new(writer: W) -> WriteSink<W>
+        ensures written { ⟦<WriteSink<W> as Sink>⟧.written result ≡ W.contents writer }
+        ensures faults { ⟦<WriteSink<W> as Sink>⟧.faults result ≡ 0 }
+    {
+        WriteSink { writer, faults: 0 }
+    }
+}
+
+impl<W: Write + Drop> Sink for WriteSink<W> {
+    ghost written = { λ sink. W.contents sink.writer };
+
+    ghost faults = { λ sink. sink.faults };
+
+    ghost lacks = { λ _. 0 };
+
+    fn write(&mut self, piece: &[u8]) -> Result<(), Trouble> {
+        if write_piece(&mut self.writer, piece).is_err() {
+            self.faults = self.faults.saturating_add(1);
+            return Err(Trouble::Failed);
+        }
+        Ok(())
+    }
+}
+
+#[cfg(test)]
+mod tests {
+    use super::WriteSink;
+    use crate::traits::Sink;
+    use std::fs;
+    use std::test::Fail;
+
+    #[test]
+    fn vec_and_file(rt: HostRuntime) -> Result<(), Fail> {
+        let mut held = Vec::new(rt.alloc());
+        let mut sink = WriteSink::new(&mut held);
+        for piece in ["job a ", "", "vers"] {
+            assert_eq!(rt; sink.write(piece.as_bytes()), Ok(()));
+        }
+        assert_eq!(rt; held.as_slice(), b"job a vers".as_slice());
+
+        let mut sink = WriteSink::new(fs::create(&rt, "write_sink.txt")?);
+        assert_eq!(rt; sink.write(b"one\n".as_slice()), Ok(()));
+        assert_eq!(rt; sink.write(b"two\n".as_slice()), Ok(()));
+        assert_eq!(rt;
+            fs::read_to_string(&rt, "write_sink.txt")?.as_str(),
+            "one\ntwo\n"
+        );
+        Ok(())
+    }
+}

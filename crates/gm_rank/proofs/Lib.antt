@@ -1,0 +1,4 @@
+pub mod Fractions
+pub mod Sharing
+pub mod Totals
+pub mod Flow

@@ -1,0 +1,39 @@
+use Rattle.std.proofs.Common.{◌≡◌, ℕ, suc, ◌<◌, List, ◌++◌, ◌+◌, ◌∙◌, length, ap, sym, refl, drop, get_or, arith, drop-cons, add-one}
+use Rattle.std.proofs.lemmas.List.{drop_all}
+use Rattle.std.proofs.lemmas.Result.{err_from_is_err_and}
+use Rattle.gm_report.specs.Report.{value_line, value_lines}
+use Rattle.gm_report.proofs.Streaming.{streamed-none, streamed-more, streamed-refused, streamed-all}
+use Rattle.gm_report.proofs.report.push_values.Goals as goal
+
+-- the next line, and those behind it
+value_lines-next : (values : List ℕ) (i : ℕ) (line : List ℕ) → i < length values → line ≡ value_line (i, get_or values i 0)
+    → value_lines i (drop i values) ≡ line ++ value_lines (i + 1) (drop (i + 1) values)
+value_lines-next values i line h is =
+    ap (value_lines i) (drop-cons values i 0 h)
+    ∙ ap (λ (rest : List ℕ). value_line (i, get_or values i 0) ++ value_lines (i + 1) rest) (ap (λ k. drop k values) (sym (add-one i)))
+    ∙ ap (λ (front : List ℕ). front ++ value_lines (i + 1) (drop (i + 1) values)) (sym is)
+
+pub loop-vertex-init : goal.loop-vertex-init
+loop-vertex-init g c = (streamed-none _ _ _, record { faults_later = omega arith; lacks_later = omega arith })
+
+pub loop-vertex-preserved : goal.loop-vertex-preserved
+loop-vertex-preserved g c = (
+  streamed-more _ _ _
+      (value_lines-next c.args.values.now c.loop-vertex.vertex c.as_slice.result.now (omega arith) (c.as_slice.ensures ∙ c.value_line-line.ensures.text))
+      c.loop-vertex.invariant.0 c.in_ok-push.ensures.ok,
+  record {
+    faults_later = omega (arith, c.push.ensures.fault.later);
+    lacks_later = omega (arith, c.push.ensures.lack.later);
+  },
+)
+
+pub returns-in_err-push-clause-err : goal.returns-in_err-push-clause-err
+returns-in_err-push-clause-err g c =
+    let p = err_from_is_err_and c.from_residual.result c.from_residual.ensures.1 in
+    rw p.1 (streamed-refused _ _ _ _ _ _
+    (value_lines-next c.args.values.now c.loop-vertex.vertex c.as_slice.result.now (omega arith) (c.as_slice.ensures ∙ c.value_line-line.ensures.text))
+    c.loop-vertex.invariant.0 c.in_err-push.ensures.err)
+
+pub returns-clause-ok : goal.returns-clause-ok
+returns-clause-ok g c =
+    streamed-all _ (ap (value_lines c.loop-vertex.vertex) (drop_all c.loop-vertex.vertex c.args.values.now (omega arith))) c.loop-vertex.invariant.0

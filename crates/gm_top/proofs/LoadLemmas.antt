@@ -1,0 +1,45 @@
+-- What follows from what a run loaded.
+use Rattle.std.proofs.Common.{◌≡◌, ℕ, List, [], ◌∷◌, Option, Some, None, IfSome, sym, ◌∙◌, ap, subst}
+use Rattle.gm_base.specs.declared.edge.Edge.{Edge}
+use Rattle.gm_base.specs.declared.job.JobLine.{JobLine}
+use Rattle.gm_base.specs.declared.job.Outcome.{Outcome}
+use Rattle.gm_base.specs.Runs.{lone_run}
+use Rattle.gm_outside.specs.Files.{Files}
+use Rattle.gm_top.specs.Commands.{RunCommand}
+use Rattle.gm_top.specs.JobText.{Job}
+use Rattle.gm_top.specs.Loads.{HoldsGrid, TellsJob}
+use Rattle.gm_top.specs.Reports.{AreLinesOf}
+
+-- a line with this outcome
+abbrev line_with : Job → Outcome → JobLine
+line_with job outcome = record { name = job.name; version = 0; outcome = outcome }
+
+line_in : (command : RunCommand) (files : Option Files) (n : ℕ) (edges : List Edge) (job : Job) (outcome : Outcome)
+    → IfSome files (λ held. HoldsGrid held command.grid n edges) → IfSome files (λ held. TellsJob held command.jobs n job)
+    → outcome ≡ lone_run job.spec n edges → IfSome files (λ held. AreLinesOf command held (line_with job outcome ∷ []))
+line_in command None n edges job outcome a b is = tt
+line_in command (Some held) n edges job outcome a b is =
+    record {
+      bytes = a.bytes;
+      grid_file = a.file;
+      n = n;
+      parts = a.parts;
+      blocks = a.blocks;
+      grid = a.grid;
+      text = b.text;
+      jobs_file = b.file;
+      job = job;
+      tells = b.tells;
+      lone = ap (λ (end : Outcome). line_with job end ∷ []) (is ∙ ap (lone_run job.spec n) a.all);
+    }
+
+-- the line of the job that was loaded, where the second file was read from the same files
+pub line_of_loaded : (command : RunCommand) (files files' : Option Files) (n n' : ℕ) (edges edges' : List Edge) (job : Job) (outcome : Outcome)
+    → files' ≡ files → n' ≡ n → edges' ≡ edges
+    → IfSome files (λ held. HoldsGrid held command.grid n edges) → IfSome files' (λ held. TellsJob held command.jobs n' job)
+    → outcome ≡ lone_run job.spec n' edges' → IfSome files (λ held. AreLinesOf command held (line_with job outcome ∷ []))
+line_of_loaded command files files' n n' edges edges' job outcome same count all a b is =
+    line_in command files n edges job outcome a
+    (subst (λ (f : Option Files). IfSome f (λ held. TellsJob held command.jobs n job)) same
+    (subst (λ (m : ℕ). IfSome files' (λ held. TellsJob held command.jobs m job)) count b))
+    (is ∙ (λ i. lone_run job.spec (count i) (all i)))

@@ -1,0 +1,17 @@
+//! The commands of the program, from their words to what they write and their status.
+#![tactic(auto)]
+
+mod command;
+mod examples;
+mod failure;
+mod job_text;
+mod program;
+mod rounds;
+mod run;
+mod standard_error;
+#[cfg(test)]
+mod tests;
+
+pub use examples::{text_of_a_job, words_of_a_run};
+pub use failure::{Failure, Place};
+pub use program::graphm;
