@@ -9,6 +9,7 @@ use Rattle.std.specs.Ordering.{nat_cmp, eq_by_cmp}
 use Rattle.std.specs.Cmp.Lexicographic.{slice_cmp, nat_list_cmp_total}
 use Rattle.std.specs.FinMap.{find, get, from_entries, insert, get-from_entries, get-insert, same_map, from_entries_push, slice_cmp-IsAntisymmetric, nat_cmp-IsAntisymmetric}
 use Rattle.std.specs.Str.{bytes_eq}
+use Rattle.gm_outside.specs.Files.{Files}
 use Rattle.gm_outside.specs.FileList.{entry_of, files_of, has_name}
 use Rattle.gm_outside.specs.declared.file_list.StoredFile.{StoredFile}
 
@@ -17,17 +18,17 @@ abbrev pub first_of : List ℕ → List StoredFile → Option (List ℕ)
 first_of name [] = None
 first_of name (file ∷ stored) = cond (has_name name file) (Some file.bytes.items) (first_of name stored)
 
-pub find-files : (name : List ℕ) (stored : List StoredFile) → find (slice_cmp nat_cmp) name (map entry_of stored) ≡ first_of name stored
+find-files : (name : List ℕ) (stored : List StoredFile) → find (slice_cmp nat_cmp) name (map entry_of stored) ≡ first_of name stored
 find-files name [] = refl
 find-files name (file ∷ stored) =
     ap (λ b. cond b (Some file.bytes.items) (find (slice_cmp nat_cmp) name (map entry_of stored))) (is_eq-slice_cmp name (string_bytes file.name))
     ∙ ap (cond (has_name name file) (Some file.bytes.items)) (find-files name stored)
 
-pub get-files : (name : List ℕ) (stored : List StoredFile) → get (files_of stored) name ≡ first_of name stored
+get-files : (name : List ℕ) (stored : List StoredFile) → get (files_of stored) name ≡ first_of name stored
 get-files name stored = get-from_entries nat_list_cmp_total (map entry_of stored) name ∙ find-files name stored
 
 -- no file has the name
-pub first_of-none : (name : List ℕ) (n : ℕ) (stored : List StoredFile) → position_from (has_name name) n stored ≡ None → first_of name stored ≡ None
+first_of-none : (name : List ℕ) (n : ℕ) (stored : List StoredFile) → position_from (has_name name) n stored ≡ None → first_of name stored ≡ None
 first_of-none name n [] e = refl
 first_of-none name n (file ∷ stored) e =
     elim (has_name name file) as (λ b. cond b (Some n) (position_from (has_name name) (n + 1) stored) ≡ None
@@ -79,7 +80,7 @@ first_later name file stored at differ first = record {
       ∙ apart name asked file differ (Some file.bytes.items) (Some new.bytes.items) (first_of asked stored);
 }
 
-pub first_from : (name : List ℕ) (n : ℕ) (stored : List StoredFile) (i : ℕ) → position_from (has_name name) n stored ≡ Some i
+first_from : (name : List ℕ) (n : ℕ) (stored : List StoredFile) (i : ℕ) → position_from (has_name name) n stored ≡ Some i
     → (at : ℕ) × (i ≡ n + at) × IsFirst name stored at
 first_from name n [] i e = cc
 first_from name n (file ∷ stored) i e =
@@ -90,12 +91,12 @@ first_from name n (file ∷ stored) i e =
           (suc later.0, (let sum = later.1 in omega arith), first_later name file stored later.0 is later.2)
     ] refl e
 
-pub first_at : (name : List ℕ) (stored : List StoredFile) (i : ℕ) → position (has_name name) stored ≡ Some i → IsFirst name stored i
+first_at : (name : List ℕ) (stored : List StoredFile) (i : ℕ) → position (has_name name) stored ≡ Some i → IsFirst name stored i
 first_at name stored i e = let found = first_from name 0 stored i (sym (position_from-zero (has_name name) stored) ∙ e) in
     let at : i ≡ found.0 = (let sum = found.1 in omega arith) in
     let P : ℕ → Type 0 = IsFirst name stored in subst P (sym at) found.2
 
-pub none_named : (name : List ℕ) (stored : List StoredFile) → position (has_name name) stored ≡ None → first_of name stored ≡ None
+none_named : (name : List ℕ) (stored : List StoredFile) → position (has_name name) stored ≡ None → first_of name stored ≡ None
 none_named name stored e = first_of-none name 0 stored (sym (position_from-zero (has_name name) stored) ∙ e)
 
 -- to replace the first file of a name is to insert it
@@ -109,11 +110,34 @@ files_of-set name stored at file first named =
     ∙ sym (get-insert nat_list_cmp_total (files_of stored) name file.bytes.items asked))
 
 -- to add a file of a new name is to insert it
-pub files_of-push : (name : List ℕ) (stored : List StoredFile) (file : StoredFile)
-    → position (has_name name) stored ≡ None → name ≡ string_bytes file.name
+pub files_of-push : (name : List ℕ) {stored whole : List StoredFile} (file : StoredFile)
+    → whole ≡ stored → None ≡ position (has_name name) whole → name ≡ string_bytes file.name
     → files_of (stored ++ file ∷ []) ≡ insert (files_of stored) name file.bytes.items
-files_of-push name stored file none named =
+files_of-push name {stored} {whole} file same found named =
     ap from_entries (map-append entry_of stored (file ∷ []))
     ∙ ap (λ key. from_entries (map entry_of stored ++ (key, file.bytes.items) ∷ [])) (sym named)
     ∙ from_entries_push nat_list_cmp_total (slice_cmp-IsAntisymmetric nat_cmp-IsAntisymmetric) (map entry_of stored) name file.bytes.items
-    (find-files name stored ∙ none_named name stored none)
+    (find-files name stored ∙ none_named name stored (ap (position (has_name name)) (sym same) ∙ sym found))
+
+-- what is known where a look finds a file: its place, its name and its bytes
+pub record IsThere (name : List ℕ) (stored : List StoredFile) (files : Files) (file : StoredFile) (place : ℕ) : Type 0 where
+  pub first : IsFirst name stored place
+  pub named : name ≡ string_bytes file.name
+  pub held : get files name ≡ Some file.bytes.items
+
+pub is_there : (name : List ℕ) {stored whole : List StoredFile} {files : Files} {file : StoredFile} (place : ℕ)
+    → whole ≡ stored → files_of stored ≡ files → Some place ≡ position (has_name name) whole
+    → file ≡ get_or stored place file → IsThere name stored files file place
+is_there name {stored} {whole} {files} {file} place same view found is =
+    let first = first_at name stored place (ap (position (has_name name)) (sym same) ∙ sym found) in record {
+      first = first;
+      named = first.named file ∙ ap (λ file. string_bytes file.name) (sym is);
+      held = ap (λ files. get files name) (sym view) ∙ get-files name stored ∙ first.value file ∙ ap (λ file. Some file.bytes.items) (sym is);
+    }
+
+-- and where it finds none
+pub is_missing : (name : List ℕ) {stored whole : List StoredFile} {files : Files}
+    → whole ≡ stored → files_of stored ≡ files → None ≡ position (has_name name) whole → get files name ≡ None
+is_missing name {stored} same view found =
+    ap (λ files. get files name) (sym view) ∙ get-files name stored
+    ∙ none_named name stored (ap (position (has_name name)) (sym same) ∙ sym found)

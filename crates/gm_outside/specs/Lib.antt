@@ -1,4 +1,5 @@
 pub mod Causes
+pub mod Changes
 pub mod FileList
 pub mod Files
 pub mod Growth

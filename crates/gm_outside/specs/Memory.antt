@@ -7,13 +7,16 @@ use Rattle.gm_outside.specs.Files.{Files, files_code}
 use Rattle.gm_outside.specs.declared.mem_depot.Call.{Call}
 
 -- a depot: its files, the calls that are made to fail, by their kind and their number from 1 on,
--- the calls so far, and the calls that failed
+-- the calls of each kind so far, the calls that failed, and those of `create` and `append` among them
 pub record DepotState : Type 0 where
   pub files : Files
   pub fails : List (Call × ℕ)
   pub sizes : ℕ
   pub reads : ℕ
+  pub creates : ℕ
+  pub appends : ℕ
   pub faults : ℕ
+  pub write_faults : ℕ
 
 -- no call is made to fail
 abbrev pub is_calm : DepotState → Bool
@@ -22,10 +25,20 @@ is_calm state = nat_eq (length state.fails) 0
 -- a state is stored as its fields, given how a call is
 abbrev pub state_code : Coded Call → Coded DepotState
 state_code call =
-    code_by ((Files × List (Call × ℕ)) × (ℕ × (ℕ × ℕ)))
-    (coded× (coded× files_code (coded_list (coded× call coded_ℕ))) (coded× coded_ℕ (coded× coded_ℕ coded_ℕ)))
-    (λ s. ((s.files, s.fails), (s.sizes, (s.reads, s.faults))))
-    (λ p. record { files = p.0.0; fails = p.0.1; sizes = p.1.0; reads = p.1.1.0; faults = p.1.1.1 })
+    code_by ((Files × List (Call × ℕ)) × (((ℕ × ℕ) × (ℕ × ℕ)) × (ℕ × ℕ)))
+    (coded× (coded× files_code (coded_list (coded× call coded_ℕ)))
+    (coded× (coded× (coded× coded_ℕ coded_ℕ) (coded× coded_ℕ coded_ℕ)) (coded× coded_ℕ coded_ℕ)))
+    (λ s. ((s.files, s.fails), (((s.sizes, s.reads), (s.creates, s.appends)), (s.faults, s.write_faults))))
+    (λ p. record {
+      files = p.0.0;
+      fails = p.0.1;
+      sizes = p.1.0.0.0;
+      reads = p.1.0.0.1;
+      creates = p.1.0.1.0;
+      appends = p.1.0.1.1;
+      faults = p.1.1.0;
+      write_faults = p.1.1.1;
+    })
     (λ _. refl)
 
 -- a sink: its bytes, the writes that are made to fail, by their number from 1 on, with how many bytes

@@ -1,6 +1,7 @@
 //! What callers learn from the contracts of several calls, one after the other.
-ghost use Rattle.std.specs.Prelude.{◌≡◌, ◌++◌, [], ◌∷◌, Some, None, IfSome, IfOk, OnOk, OnErr, IsErrOf, IsTrue};
+ghost use Rattle.std.specs.Prelude.{◌≡◌, ◌++◌, ◌⊎◌, [], ◌∷◌, Some, None, IfSome, IfOk, OnOk, OnErr, IsErrOf, IsTrue};
 ghost use Rattle.std.specs.FinMap as map;
+ghost use Rattle.gm_outside.specs.Changes.{with_file, HoldsPrefix};
 ghost use Rattle.gm_outside.specs.Causes.{counted, HasCause};
 ghost use Rattle.gm_outside.specs.Growth.{GrewBy, GrewByPrefix};
 ghost use Rattle.gm_outside.specs.Memory.{next_limit};
@@ -51,6 +52,27 @@ fn write_two<K: Sink>(sink: &mut K, first: &[u8], second: &[u8]) -> Result<(), T
     Ok(())
 }
 
+// What a caller learns of a file that it writes in two pieces.
+#[tactic(auto, using(crate::specs::Changes::changes))]
+fn write_file<D: Depot>(
+    depot: &mut D,
+    name: &str,
+    first: &[u8],
+    second: &[u8],
+) -> Result<(), Trouble>
+    ensures ok { OnOk result (D.files depot.new ≡ with_file (D.files depot.old) name.now (first.now ++ second.now)) }
+    ensures err { OnErr result ((D.files depot.new ≡ D.files depot.old)
+        ⊎ HoldsPrefix (D.files depot.old) (D.files depot.new) name.now (first.now ++ second.now)) }
+    ensures cause { HasCause Trouble.Failed (D.faults depot.old) (D.faults depot.new) result }
+    ensures write_cause { HasCause Trouble.Failed (D.write_faults depot.old) (D.write_faults depot.new) result }
+    ensures reads_kept { D.reads depot.new ≡ D.reads depot.old }
+{
+    depot.create(name)?;
+    depot.append(name, first)?;
+    depot.append(name, second)?;
+    Ok(())
+}
+
 fn definitions()
     ensures next { counted 7 ≡ 8 }
     ensures last { counted 18446744073709551615 ≡ 18446744073709551615 }
@@ -71,6 +93,12 @@ fn over_memory(rt: HostRuntime) -> Result<(), Fail> {
     assert_eq!(rt; first.as_slice(), b"ab".as_slice());
     assert_eq!(rt; second.as_slice(), b"c".as_slice());
     assert_eq!(rt; depot.reads(), 2);
+    write_file(&mut depot, "a", &second, &first)?;
+    assert!(rt;
+        depot
+            .file("a")
+            .is_some_and(|bytes| bytes == b"cab".as_slice())
+    );
 
     let mut sink = MemSink::new(alloc, Vec::new(alloc));
     write_two(&mut sink, &first, &second)?;

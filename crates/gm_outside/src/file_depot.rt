@@ -3,7 +3,8 @@ ghost use Rattle.std.specs.Prelude.{◌≡◌, ◌+◌, ◌≤◌, None, false, 
 ghost use Rattle.gm_outside.specs.Causes.{Rose};
 
 use crate::traits::{Depot, Trouble};
-use std::fs::{File, OpenFile};
+use crate::writing::write_piece;
+use std::fs::{File, Metadata, OpenFile};
 use std::io::{ErrorKind, Read, Seek, SeekFrom};
 use std::rt::Files;
 use std::{fs, io};
@@ -16,6 +17,7 @@ pub struct FileDepot<R> {
     rt: R,
     reads: u64,
     faults: u64,
+    write_faults: u64,
 }
 
 impl<R: Files + Drop> FileDepot<R> {
@@ -23,17 +25,20 @@ impl<R: Files + Drop> FileDepot<R> {
     pub fn new(rt: R) -> FileDepot<R>
         ensures reads { ⟦<FileDepot<R> as Depot>⟧.reads result ≡ 0 }
         ensures faults { ⟦<FileDepot<R> as Depot>⟧.faults result ≡ 0 }
+        ensures write_faults { ⟦<FileDepot<R> as Depot>⟧.write_faults result ≡ 0 }
     {
         FileDepot {
             rt,
             reads: 0,
             faults: 0,
+            write_faults: 0,
         }
     }
 
     /// Counts an error as a fault, unless it is want of memory.
     fn trouble(&mut self, error: io::Error) -> Trouble
         ensures reads { self.new.reads ≡ self.old.reads }
+        ensures write_faults { self.new.write_faults ≡ self.old.write_faults }
         ensures later { self.old.faults ≤ self.new.faults }
         ensures failed { result ≡ Trouble.Failed → Rose self.old.faults self.new.faults }
     {
@@ -44,10 +49,27 @@ impl<R: Files + Drop> FileDepot<R> {
         Trouble::Failed
     }
 
+    /// The same for an error of a call that writes.
+    fn write_trouble(&mut self, error: io::Error) -> Trouble
+        ensures reads { self.new.reads ≡ self.old.reads }
+        ensures later { self.old.faults ≤ self.new.faults }
+        ensures write_later { self.old.write_faults ≤ self.new.write_faults }
+        ensures failed { result ≡ Trouble.Failed → Rose self.old.faults self.new.faults }
+        ensures write_failed { result ≡ Trouble.Failed → Rose self.old.write_faults self.new.write_faults }
+    {
+        let trouble = self.trouble(error);
+        if trouble == Trouble::Failed {
+            self.write_faults = self.write_faults.saturating_add(1);
+        }
+        trouble
+    }
+
     fn file_size(&self, name: &str) -> io::Result<Option<u64>> {
         match fs::metadata(&self.rt, name) {
-            Ok(metadata) if metadata.is_file() => Ok(Some(metadata.len())),
-            Ok(_) => Err(io::Error::from(ErrorKind::InvalidInput)),
+            Ok(metadata) => {
+                require_file(&metadata)?;
+                Ok(Some(metadata.len()))
+            }
             Err(error) if error.kind() == ErrorKind::NotFound => Ok(None),
             Err(error) => Err(error),
         }
@@ -56,17 +78,37 @@ impl<R: Files + Drop> FileDepot<R> {
     fn read_range(&self, name: &str, pos: u64, into: &mut [u8]) -> io::Result<()> {
         let mut file = File::open(&self.rt, name)?;
         let metadata = file.metadata()?;
-        if !metadata.is_file() {
-            return Err(io::Error::from(ErrorKind::InvalidInput));
-        }
+        require_file(&metadata)?;
         if metadata.len() < pos || metadata.len() - pos < into.len() as u64 {
             return Err(io::Error::from(ErrorKind::UnexpectedEof));
         }
         file.seek(SeekFrom::Start(pos))?;
         file.read_exact(into)
     }
+
+    fn create_file(&self, name: &str) -> io::Result<()> {
+        let file = File::create(&self.rt, name)?;
+        require_file(&file.metadata()?)
+    }
+
+    fn append_bytes(&self, name: &str, bytes: &[u8]) -> io::Result<()> {
+        let mut options = File::options();
+        options.append(true);
+        let mut file = options.open(&self.rt, name)?;
+        require_file(&file.metadata()?)?;
+        write_piece(&mut file, bytes)
+    }
 }
 
+fn require_file(metadata: &Metadata) -> io::Result<()> {
+    if metadata.is_file() {
+        Ok(())
+    } else {
+        Err(io::Error::from(ErrorKind::InvalidInput))
+    }
+}
+
+#[tactic(auto, using(crate::specs::Changes::changes))]
 impl<R: Files + Drop> Depot for FileDepot<R> {
     ghost files = { λ _. None };
 
@@ -75,6 +117,8 @@ impl<R: Files + Drop> Depot for FileDepot<R> {
     ghost faults = { λ depot. depot.faults };
 
     ghost reads = { λ depot. depot.reads };
+
+    ghost write_faults = { λ depot. depot.write_faults };
 
     ghost calm_tells = { λ _ h. h };
 
@@ -90,6 +134,20 @@ impl<R: Files + Drop> Depot for FileDepot<R> {
         match self.read_range(name, pos, into) {
             Ok(()) => Ok(()),
             Err(error) => Err(self.trouble(error)),
+        }
+    }
+
+    fn create(&mut self, name: &str) -> Result<(), Trouble> {
+        match self.create_file(name) {
+            Ok(()) => Ok(()),
+            Err(error) => Err(self.write_trouble(error)),
+        }
+    }
+
+    fn append(&mut self, name: &str, bytes: &[u8]) -> Result<(), Trouble> {
+        match self.append_bytes(name, bytes) {
+            Ok(()) => Ok(()),
+            Err(error) => Err(self.write_trouble(error)),
         }
     }
 }
@@ -137,10 +195,31 @@ mod tests {
         }
 
         let whole = read_whole(rt.alloc(), &mut depot, "file_depot/sub/part.bin", 6);
+        assert!(rt; whole.is_ok_and(|bytes| bytes.as_slice() == b"abcdef".as_slice()));
+
+        assert_eq!(rt; depot.create("file_depot/sub/part.bin"), Ok(()));
+        assert_eq!(rt; depot.size("file_depot/sub/part.bin"), Ok(Some(0)));
         assert_eq!(rt;
-            whole.is_ok_and(|bytes| bytes.as_slice() == b"abcdef".as_slice()),
-            true
+            depot.append("file_depot/new.bin", b"x".as_slice()),
+            Err(Trouble::Failed)
         );
+        assert_eq!(rt; depot.create("file_depot/new.bin"), Ok(()));
+        for piece in ["ab", "", "cd"] {
+            assert_eq!(rt;
+                depot.append("file_depot/new.bin", piece.as_bytes()),
+                Ok(())
+            );
+        }
+        assert_eq!(rt;
+            fs::read_to_string(&rt, "file_depot/new.bin")?.as_str(),
+            "abcd"
+        );
+        assert_eq!(rt; depot.create("file_depot/sub"), Err(Trouble::Failed));
+        assert_eq!(rt;
+            depot.create("file_depot/none/new.bin"),
+            Err(Trouble::Failed)
+        );
+        fs::remove_dir_all(&rt, "file_depot")?;
         Ok(())
     }
 }

@@ -1,10 +1,12 @@
 //! Files in memory, by their names.
-ghost use Rattle.std.specs.Prelude.{◌≡◌, length, OnOk, OnErr, IfSome, IfNone, position};
+ghost use Rattle.std.specs.Prelude.{◌≡◌, ◌↔◌, length, IsNone, IsErrOf, OnOk, OnErr, IfSome, IfNone, position};
 ghost use Rattle.std.specs.Option.{option_copied};
 ghost use Rattle.std.specs.FinMap as map;
+ghost use Rattle.gm_outside.specs.Changes.{append_to};
 ghost use Rattle.gm_outside.specs.FileList.{has_name};
 ghost use Rattle.gm_outside.specs.Files.{HasRange, HasBytesAt};
 
+use crate::traits::Trouble;
 use std::alloc::{AllocError, Global};
 use std::marker::Model;
 
@@ -77,6 +79,21 @@ impl FileList {
             }
         }
         Ok(())
+    }
+
+    /// Adds bytes at the end of a file. It fails exactly where the file is missing.
+    pub(crate) fn append(&mut self, name: &str, bytes: &[u8]) -> Result<(), Trouble>
+        ensures ok { OnOk result (self.new ≡ append_to self.old name.now bytes.now) }
+        ensures err { OnErr result (self.new ≡ self.old) }
+        ensures missing { IsErrOf result Trouble.Failed ↔ IsNone (map.get self.old name.now) }
+    {
+        match place_of(&self.stored, name) {
+            None => Err(Trouble::Failed),
+            Some(place) => {
+                self.stored[place].bytes.extend_from_slice(bytes)?;
+                Ok(())
+            }
+        }
     }
 }
 

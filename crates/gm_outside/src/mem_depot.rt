@@ -1,7 +1,8 @@
 //! A depot in memory, whose calls fail exactly where they are told to.
-ghost use Rattle.std.specs.Prelude.{◌≡◌, ◌↔◌, ◌≤◌, List, ℕ, Bool, Option, Some, length, Contains, IsTrue, IsSome, IsOk, IsErr, IfSome, IfOk, OnOk, OnErr, IfErr, IsErrOf, is_ok, refl, if◌then◌else◌};
+ghost use Rattle.std.specs.Prelude.{◌≡◌, ◌↔◌, ◌≤◌, [], IsSome, IsNone, IsErrOf, List, ℕ, Bool, Option, Some, length, Contains, IsTrue, IsOk, IsErr, IfSome, IfOk, OnOk, OnErr, IfErr, is_ok, refl, if◌then◌else◌};
 ghost use Rattle.std.specs.Option.{option_copied};
 ghost use Rattle.std.specs.FinMap as map;
+ghost use Rattle.gm_outside.specs.Changes.{append_to, with_file, with_appended, AppendedPrefix};
 ghost use Rattle.gm_outside.specs.Causes.{counted, HasCause};
 ghost use Rattle.gm_outside.specs.Files.{Files, size_of, HasRange, HasBytesAt};
 
@@ -15,6 +16,8 @@ use std::marker::Model;
 pub enum Call {
     Size,
     Read,
+    Create,
+    Append,
 }
 
 /// Files in memory. A call fails exactly where its kind and its number, counted from 1 for each kind,
@@ -25,7 +28,10 @@ pub struct MemDepot {
     fails: Vec<(Call, u64)>,
     sizes: u64,
     reads: u64,
+    creates: u64,
+    appends: u64,
     faults: u64,
+    write_faults: u64,
 }
 
 impl Model for MemDepot {
@@ -36,20 +42,41 @@ impl Model for MemDepot {
 
     ghost coded = { state_code call.the_row.coded };
 
-    ghost view = { λ depot. record { files = depot.files; fails = depot.fails.items; sizes = depot.sizes; reads = depot.reads; faults = depot.faults } };
+    ghost view = { λ depot. record {
+      files = depot.files;
+      fails = depot.fails.items;
+      sizes = depot.sizes;
+      reads = depot.reads;
+      creates = depot.creates;
+      appends = depot.appends;
+      faults = depot.faults;
+      write_faults = depot.write_faults;
+    } };
 }
 
 impl MemDepot {
     /// A depot without files, whose listed calls fail.
     pub fn new(alloc: Global, fails: Vec<(Call, u64)>) -> MemDepot
-        ensures { result ≡ record { files = map.empty; fails = fails.items; sizes = 0; reads = 0; faults = 0 } }
+        ensures { result ≡ record {
+          files = map.empty;
+          fails = fails.items;
+          sizes = 0;
+          reads = 0;
+          creates = 0;
+          appends = 0;
+          faults = 0;
+          write_faults = 0;
+        } }
     {
         MemDepot {
             files: FileList::new(alloc),
             fails,
             sizes: 0,
             reads: 0,
+            creates: 0,
+            appends: 0,
             faults: 0,
+            write_faults: 0,
         }
     }
 
@@ -82,6 +109,13 @@ impl MemDepot {
         self.faults
     }
 
+    /// How many calls of `create` and `append` failed.
+    pub fn write_faults(&self) -> u64
+        ensures { result ≡ self.now.write_faults }
+    {
+        self.write_faults
+    }
+
     fn is_made_to_fail(&self, call: Call, number: u64) -> bool
         ensures { IsTrue result ↔ Contains self.now.fails (call, number) }
     {
@@ -96,8 +130,22 @@ impl MemDepot {
         self.faults = self.faults.saturating_add(1);
         Trouble::Failed
     }
+
+    fn write_fault(&mut self) -> Trouble
+        ensures trouble { result ≡ Trouble.Failed }
+        ensures after { self.new ≡ record self.old {
+          faults = counted self.old.faults;
+          write_faults = counted self.old.write_faults;
+        } }
+        ensures later { self.old.faults ≤ self.new.faults }
+        ensures write_later { self.old.write_faults ≤ self.new.write_faults }
+    {
+        self.write_faults = self.write_faults.saturating_add(1);
+        self.fault()
+    }
 }
 
+#[tactic(auto, using(crate::specs::Changes::changes))]
 impl Depot for MemDepot {
     ghost use Rattle.gm_outside.specs.Memory.{is_calm};
 
@@ -108,6 +156,8 @@ impl Depot for MemDepot {
     ghost faults = { λ depot. depot.faults };
 
     ghost reads = { λ depot. depot.reads };
+
+    ghost write_faults = { λ depot. depot.write_faults };
 
     ghost calm_tells = { λ _ _. refl };
 
@@ -152,6 +202,63 @@ impl Depot for MemDepot {
                 Ok(())
             }
             None => Err(self.fault()),
+        }
+    }
+
+    fn create(&mut self, name: &str) -> Result<(), Trouble>
+        ensures fails { IsErrOf result Trouble.Failed ↔ Contains self.old.fails (Call.Create, counted self.old.creates) }
+        ensures ok { OnOk result (self.new ≡ record self.old {
+          files = map.insert self.old.files name.now [];
+          creates = counted self.old.creates;
+        }) }
+        ensures told { OnOk result (Some self.new.files ≡ with_file (Some self.old.files) name.now []) }
+        ensures failed { IsErrOf result Trouble.Failed → self.new ≡ record self.old {
+          creates = counted self.old.creates;
+          faults = counted self.old.faults;
+          write_faults = counted self.old.write_faults;
+        } }
+        ensures memory { IsErrOf result Trouble.Memory → self.new ≡ record self.old { creates = counted self.old.creates } }
+        ensures cause { HasCause Trouble.Failed self.old.faults self.new.faults result }
+        ensures write_cause { HasCause Trouble.Failed self.old.write_faults self.new.write_faults result }
+    {
+        let number = self.creates.saturating_add(1);
+        self.creates = number;
+        if self.is_made_to_fail(Call::Create, number) {
+            return Err(self.write_fault());
+        }
+        self.files.put(name, &[])?;
+        Ok(())
+    }
+
+    fn append(&mut self, name: &str, bytes: &[u8]) -> Result<(), Trouble>
+        ensures listed { Contains self.old.fails (Call.Append, counted self.old.appends) → IsErrOf result Trouble.Failed }
+        ensures missing { IsNone (map.get self.old.files name.now) → IsErrOf result Trouble.Failed }
+        ensures fails_only { IsErrOf result Trouble.Failed
+            → IsSome (map.get self.old.files name.now)
+            → Contains self.old.fails (Call.Append, counted self.old.appends) }
+        ensures ok { OnOk result (self.new ≡ record self.old {
+          files = append_to self.old.files name.now bytes.now;
+          appends = counted self.old.appends;
+        }) }
+        ensures told { OnOk result (Some self.new.files ≡ with_appended (Some self.old.files) name.now bytes.now) }
+        ensures told_prefix { OnErr result (AppendedPrefix (Some self.old.files) (Some self.new.files) name.now bytes.now) }
+        ensures failed { IsErrOf result Trouble.Failed → self.new ≡ record self.old {
+          appends = counted self.old.appends;
+          faults = counted self.old.faults;
+          write_faults = counted self.old.write_faults;
+        } }
+        ensures memory { IsErrOf result Trouble.Memory → self.new ≡ record self.old { appends = counted self.old.appends } }
+        ensures cause { HasCause Trouble.Failed self.old.faults self.new.faults result }
+        ensures write_cause { HasCause Trouble.Failed self.old.write_faults self.new.write_faults result }
+    {
+        let number = self.appends.saturating_add(1);
+        self.appends = number;
+        if self.is_made_to_fail(Call::Append, number) {
+            return Err(self.write_fault());
+        }
+        match self.files.append(name, bytes) {
+            Err(Trouble::Failed) => Err(self.write_fault()),
+            outcome => outcome,
         }
     }
 }
@@ -204,6 +311,36 @@ mod tests {
         }
         assert_eq!(rt; depot.reads(), 8);
         assert_eq!(rt; depot.faults(), 5);
+        assert_eq!(rt; depot.write_faults(), 0);
+        Ok(())
+    }
+
+    #[test]
+    fn writes_where_told(rt: HostRuntime) -> Result<(), Fail> {
+        let fails = vec![in rt.alloc(); (Call::Create, 2), (Call::Append, 3)]?;
+        let mut depot = MemDepot::new(rt.alloc(), fails);
+        depot.put("a", b"old".as_slice())?;
+        assert_eq!(rt; depot.create("a"), Ok(()));
+        assert_eq!(rt; depot.create("b"), Err(Trouble::Failed));
+        assert_eq!(rt; depot.create("c"), Ok(()));
+        let appends = [
+            ("a", "new", Ok(())),
+            ("b", "x", Err(Trouble::Failed)),
+            ("a", "y", Err(Trouble::Failed)),
+            ("a", "er", Ok(())),
+        ];
+        for (name, piece, want) in appends {
+            assert_eq!(rt; depot.append(name, piece.as_bytes()), want, "{piece}");
+        }
+        assert!(rt;
+            depot
+                .file("a")
+                .is_some_and(|bytes| bytes == b"newer".as_slice())
+        );
+        assert!(rt; depot.file("b").is_none());
+        assert!(rt; depot.file("c").is_some_and(|bytes| bytes.is_empty()));
+        assert_eq!(rt; depot.faults(), 3);
+        assert_eq!(rt; depot.write_faults(), 3);
         Ok(())
     }
 }

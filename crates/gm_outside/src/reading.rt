@@ -26,6 +26,7 @@ pub fn read_whole<D: Depot>(
 
     ensures files_kept { D.files depot.new ≡ D.files depot.old }
     ensures calm_kept { D.calm depot.new ≡ D.calm depot.old }
+    ensures write_faults_kept { D.write_faults depot.new ≡ D.write_faults depot.old }
     ensures reads { (IsErrOf result Trouble.Memory → ⊥) → D.reads depot.new ≡ counted (D.reads depot.old) }
     ensures reads_at_most { (D.reads depot.new ≡ D.reads depot.old) ⊎ (D.reads depot.new ≡ counted (D.reads depot.old)) }
 {

@@ -1,5 +1,7 @@
 //! What the program asks of the outside: files by their names, a place for what it writes, and a gate.
-ghost use Rattle.std.specs.Prelude.{◌≡◌, ℕ, Bool, List, [], Option, length, IsTrue, IsSome, IsOk, IfSome, IfOk, OnOk, OnErr, IsErrOf};
+ghost use Rattle.std.specs.Prelude.{◌≡◌, ◌⊎◌, ℕ, Bool, List, [], Option, length, IsTrue, IsSome, IsOk, IfSome, IfOk, OnOk, OnErr, IsErrOf};
+ghost use Rattle.std.specs.FinMap as map;
+ghost use Rattle.gm_outside.specs.Changes.{with_file, with_appended, AppendedPrefix};
 ghost use Rattle.gm_outside.specs.Causes.{counted, HasCause};
 ghost use Rattle.gm_outside.specs.Files.{Files, size_of, HasRange, HasBytesAt};
 ghost use Rattle.gm_outside.specs.Growth.{GrewBy, GrewByPrefix};
@@ -25,8 +27,8 @@ impl From<AllocError> for Trouble {
 /// A store of files, by their names. Names and contents are seen as bytes.
 ///
 /// `files` are the files, where the depot tells them. A `calm` depot tells them and never fails
-/// without a reason that they show. `faults` counts failures and `reads` the calls of `read_at`;
-/// both stop at the end of a `u64`.
+/// without a reason that they show. `faults` counts failures, `write_faults` those of `create` and
+/// `append`, and `reads` the calls of `read_at`; each stops at the end of a `u64`.
 pub trait Depot: Drop {
     ghost files: { Self → Option Files };
 
@@ -36,6 +38,8 @@ pub trait Depot: Drop {
 
     ghost reads: { Self → ℕ };
 
+    ghost write_faults: { Self → ℕ };
+
     /// The length of a file in bytes, or `None` where there is no such file.
     fn size(&mut self, name: &str) -> Result<Option<u64>, Trouble>
         ensures size { IfSome (files self.old) (λ held. IfOk result (λ size. size ≡ size_of held name.now)) }
@@ -43,7 +47,8 @@ pub trait Depot: Drop {
         ensures calm { IsTrue (calm self.old) → IsErrOf result Trouble.Failed → ⊥ }
         ensures files_kept { files self.new ≡ files self.old }
         ensures calm_kept { calm self.new ≡ calm self.old }
-        ensures reads_kept { reads self.new ≡ reads self.old };
+        ensures reads_kept { reads self.new ≡ reads self.old }
+        ensures write_faults_kept { write_faults self.new ≡ write_faults self.old };
 
     /// Fills `into` with the bytes of a file from `pos` on.
     ///
@@ -57,7 +62,34 @@ pub trait Depot: Drop {
             → IsErrOf result Trouble.Failed → ⊥) }
         ensures files_kept { files self.new ≡ files self.old }
         ensures calm_kept { calm self.new ≡ calm self.old }
-        ensures reads { reads self.new ≡ counted (reads self.old) };
+        ensures reads { reads self.new ≡ counted (reads self.old) }
+        ensures write_faults_kept { write_faults self.new ≡ write_faults self.old };
+
+    /// Makes a file empty, and creates it where it is missing. After a refusal the file is as before
+    /// or empty. No other file changes.
+    fn create(&mut self, name: &str) -> Result<(), Trouble>
+        ensures ok { OnOk result (files self.new ≡ with_file (files self.old) name.now []) }
+        ensures err { OnErr result ((files self.new ≡ files self.old)
+            ⊎ (files self.new ≡ with_file (files self.old) name.now [])) }
+        ensures cause { HasCause Trouble.Failed (faults self.old) (faults self.new) result }
+        ensures write_cause { HasCause Trouble.Failed (write_faults self.old) (write_faults self.new) result }
+        ensures calm { IsTrue (calm self.old) → IsErrOf result Trouble.Failed → ⊥ }
+        ensures calm_kept { calm self.new ≡ calm self.old }
+        ensures reads_kept { reads self.new ≡ reads self.old };
+
+    /// Adds bytes at the end of a file; it fails where the file is missing. After a refusal the file
+    /// holds its old bytes and a first part of the new ones. No other file changes.
+    fn append(&mut self, name: &str, bytes: &[u8]) -> Result<(), Trouble>
+        ensures there { IfSome (files self.old) (λ held. OnOk result (IsSome (map.get held name.now))) }
+        ensures ok { OnOk result (files self.new ≡ with_appended (files self.old) name.now bytes.now) }
+        ensures err { OnErr result (AppendedPrefix (files self.old) (files self.new) name.now bytes.now) }
+        ensures cause { HasCause Trouble.Failed (faults self.old) (faults self.new) result }
+        ensures write_cause { HasCause Trouble.Failed (write_faults self.old) (write_faults self.new) result }
+        ensures calm { IsTrue (calm self.old)
+            → IfSome (files self.old) (λ held. IsSome (map.get held name.now)
+            → IsErrOf result Trouble.Failed → ⊥) }
+        ensures calm_kept { calm self.new ≡ calm self.old }
+        ensures reads_kept { reads self.new ≡ reads self.old };
 
     ghost calm_tells: { (depot : Self) → IsTrue (calm depot) → IsSome (files depot) };
 }

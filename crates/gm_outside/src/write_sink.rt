@@ -62,6 +62,7 @@ mod tests {
             fs::read_to_string(&rt, "write_sink.txt")?.as_str(),
             "one\ntwo\n"
         );
+        fs::remove_file(&rt, "write_sink.txt")?;
         Ok(())
     }
 }

@@ -1,2 +1,3 @@
+pub mod ErrorLines
 pub mod Pieces
 pub mod Report

@@ -2,10 +2,10 @@
 use Rattle.std.specs.Prelude.{◌≡◌, ℕ, ◌≤◌, Bool, IsTrue, ◌⊎◌, List, Option, Some, None, IfSome}
 use Rattle.gm_outside.specs.Files.{Files}
 use Rattle.gm_outside.specs.Causes.{Rose}
-use Rattle.gm_outside.specs.Growth.{GrewBy, GrewByPrefix}
 use Rattle.gm_top.specs.declared.failure.Failure.{Failure}
 use Rattle.gm_top.specs.Commands.{RunCommand, run_command_of}
-use Rattle.gm_top.specs.Failures.{status_of, error_line, usage_line, first_refusal, IsSaid, EndsBy}
+use Rattle.gm_report.specs.ErrorLines.{IsSaid}
+use Rattle.gm_top.specs.Failures.{status_of, error_line, first_refusal, EndsBy}
 use Rattle.gm_top.specs.Reports.{Reports, LeavesWritten}
 
 -- The words are a command whose files aren't refused, and its whole report was written.

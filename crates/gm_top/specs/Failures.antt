@@ -1,9 +1,9 @@
 -- Why a run ends without a report: its status, and its line on standard error.
-use Rattle.std.specs.Prelude.{◌≡◌, ℕ, Bool, IsTrue, is_none, is_some, if◌then◌else◌, List, [], ◌++◌, codes, ◌⊎◌, Option, Some, None, IfSome}
+use Rattle.std.specs.Prelude.{◌≡◌, ℕ, Bool, IsTrue, is_none, is_some, if◌then◌else◌, List, [], codes, Option, Some, None, IfSome}
 use Rattle.std.specs.FinMap.{get}
 use Rattle.gm_outside.specs.Files.{Files}
 use Rattle.gm_outside.specs.Causes.{Rose}
-use Rattle.gm_outside.specs.Growth.{GrewBy, GrewByPrefix}
+use Rattle.gm_report.specs.ErrorLines.{error_line_of}
 use Rattle.gm_grid.specs.Refusals.{grid_refusal, shape_in}
 use Rattle.gm_top.specs.declared.failure.Place.{Place}
 use Rattle.gm_top.specs.declared.failure.Place.TheVariants.{Grid, Jobs}
@@ -25,10 +25,6 @@ status_of (ReadFailed place) = 6
 status_of OutputFailed = 7
 status_of OutOfMemory = 8
 
--- what each line begins with
-unfoldable pub program_name : List ℕ
-program_name = codes "graphm: "
-
 -- the word that the line names, if it names one
 abbrev pub named_by : RunCommand → Failure → List ℕ
 named_by command (NoSuchFile place) = name_of command place
@@ -48,11 +44,7 @@ text_of OutputFailed = codes "output failed\n"
 text_of OutOfMemory = codes "out of memory\n"
 
 abbrev pub error_line : RunCommand → Failure → List ℕ
-error_line command failure = program_name ++ named_by command failure ++ text_of failure
-
--- the line where the words are no command
-unfoldable pub usage_line : List ℕ
-usage_line = codes "graphm: usage: run GRID JOBS WORKERS CHUNK, build EDGES GRID N PARTS, info GRID CHUNK, drill NUMBER SCALE WORKERS\n"
+error_line command failure = error_line_of (named_by command failure) (text_of failure)
 
 -- why these bytes, if there is a file, give a graph of n vertices no jobs
 abbrev pub jobs_refusal : ℕ → Option (List ℕ) → Option Failure
@@ -94,11 +86,6 @@ EndsBy refusal files calm before now out_before out_now NotBuiltYet = IsCause re
 EndsBy refusal files calm before now out_before out_now (ReadFailed place) = IsCause refusal files calm before now (ReadFailed place)
 EndsBy refusal files calm before now out_before out_now OutputFailed = Rose out_before out_now
 EndsBy refusal files calm before now out_before out_now OutOfMemory = Unit {0}
-
--- a line was said: all of it, or a first part where standard error failed or found no memory
-abbrev pub IsSaid : Option (List ℕ) → Option (List ℕ) → ℕ → ℕ → ℕ → ℕ → List ℕ → Type 0
-IsSaid old new faults faults' lacks lacks' line =
-    GrewBy old new line ⊎ ((Rose faults faults' ⊎ Rose lacks lacks') × GrewByPrefix old new line)
 
 -- a failure of the output
 abbrev pub IsOutputFailure : ℕ → ℕ → Failure → Type 0

@@ -1,9 +1,10 @@
 //! The words of the command line.
 
 ghost use Rattle.std.specs.Prelude.{◌≡◌, Some, None, IfSome, IfNone};
-ghost use Rattle.gm_top.specs.Commands.{is_plain, number_between, run_command_of};
+ghost use Rattle.gm_top.specs.Commands.{run_command_of};
 
-use gm_base::{Words, number};
+use gm_base::Words;
+use gm_tools::{is_plain, number_between};
 
 /// `run GRID JOBS WORKERS CHUNK` with one worker.
 #[derive(Clone, Copy)]
@@ -11,24 +12,6 @@ pub(crate) struct RunCommand<'a> {
     pub grid: &'a str,
     pub jobs: &'a str,
     pub chunk: u32,
-}
-
-/// Whether a word is neither empty nor an option.
-fn is_plain(word: &str) -> bool
-    ensures { result ≡ is_plain word.now }
-{
-    match word.as_bytes() {
-        [] => false,
-        [first, ..] => *first != b'-',
-    }
-}
-
-/// The number of a word, in this range.
-fn number_between(low: u64, high: u64, word: &str) -> Option<u64>
-    ensures { result ≡ number_between low high word.now }
-{
-    let value = number(word.as_bytes(), high)?;
-    if low <= value { Some(value) } else { None }
 }
 
 /// The command that the words say: `None` exactly where they say none.

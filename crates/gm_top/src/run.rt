@@ -36,6 +36,7 @@ fn read_file<D: Depot>(
     ensures later { D.faults depot.old ≤ D.faults depot.new }
     ensures files_kept { D.files depot.new ≡ D.files depot.old }
     ensures calm_kept { D.calm depot.new ≡ D.calm depot.old }
+    ensures write_faults_kept { D.write_faults depot.new ≡ D.write_faults depot.old }
 {
     let size = match depot.size(name) {
         Ok(Some(size)) => size,
@@ -64,6 +65,7 @@ fn load_grid<D: Depot>(
     ensures later { D.faults depot.old ≤ D.faults depot.new }
     ensures files_kept { D.files depot.new ≡ D.files depot.old }
     ensures calm_kept { D.calm depot.new ≡ D.calm depot.old }
+    ensures write_faults_kept { D.write_faults depot.new ≡ D.write_faults depot.old }
 {
     let bytes = read_file(alloc, depot, command.grid, Place::Grid)?;
     match read_grid(alloc, &bytes) {
@@ -87,6 +89,7 @@ fn load_job<D: Depot>(
     ensures later { D.faults depot.old ≤ D.faults depot.new }
     ensures files_kept { D.files depot.new ≡ D.files depot.old }
     ensures calm_kept { D.calm depot.new ≡ D.calm depot.old }
+    ensures write_faults_kept { D.write_faults depot.new ≡ D.write_faults depot.old }
 {
     let text = read_file(alloc, depot, command.jobs, Place::Jobs)?;
     match read_job(alloc, &text, n) {
@@ -109,6 +112,7 @@ fn compute<D: Depot>(
     ensures later { D.faults depot.old ≤ D.faults depot.new }
     ensures files_kept { D.files depot.new ≡ D.files depot.old }
     ensures calm_kept { D.calm depot.new ≡ D.calm depot.old }
+    ensures write_faults_kept { D.write_faults depot.new ≡ D.write_faults depot.old }
 {
     let grid = load_grid(alloc, depot, command)?;
     let n = grid.shape.n();
@@ -164,6 +168,7 @@ pub(crate) fn run<D: Depot, K: Sink>(
     ensures out_later { K.faults out.old ≤ K.faults out.new }
     ensures files_kept { D.files depot.new ≡ D.files depot.old }
     ensures calm_kept { D.calm depot.new ≡ D.calm depot.old }
+    ensures write_faults_kept { D.write_faults depot.new ≡ D.write_faults depot.old }
 {
     let line = match compute(alloc, depot, command) {
         Ok(line) => line,

@@ -1,4 +1,6 @@
 //! The whole path over files in memory: texts, statuses, and each call failing in turn.
+//!
+//! Long texts stand in functions without contracts, so that no proof carries them.
 
 use crate::graphm;
 use gm_base::Words;
@@ -7,18 +9,25 @@ use std::sync::Arc;
 use std::test::Fail;
 
 /// Four vertices in two ranges: 0 to 1, 1 to 2, 0 to 2 of weight 5, 2 to 3.
-const GRID: [u8; 96] = [
-    71, 71, 82, 73, 68, 48, 48, 49, 4, 0, 0, 0, 2, 0, 0, 0, 1, 0, 0, 0, 0, 0, 0, 0, 2, 0, 0, 0, 0,
-    0, 0, 0, 0, 0, 0, 0, 0, 0, 0, 0, 1, 0, 0, 0, 0, 0, 0, 0, 0, 0, 0, 0, 1, 0, 0, 0, 1, 0, 0, 0, 1,
-    0, 0, 0, 2, 0, 0, 0, 1, 0, 0, 0, 0, 0, 0, 0, 2, 0, 0, 0, 5, 0, 0, 0, 2, 0, 0, 0, 3, 0, 0, 0, 1,
-    0, 0, 0,
-];
+fn way_file() -> &'static [u8] {
+    b"GGRID001\x04\0\0\0\x02\0\0\0\x01\0\0\0\0\0\0\0\x02\0\0\0\0\0\0\0\0\0\0\0\0\0\0\0\x01\0\0\0\0\0\0\0\0\0\0\0\x01\0\0\0\x01\0\0\0\x01\0\0\0\x02\0\0\0\x01\0\0\0\0\0\0\0\x02\0\0\0\x05\0\0\0\x02\0\0\0\x03\0\0\0\x01\0\0\0"
+}
 
-const JOBS: &[u8] = b"job a bfs 0\n";
+fn report() -> &'static [u8] {
+    b"job a version 0 done rounds 3\n0 0\n1 1\n2 1\n3 2\n"
+}
 
-const REPORT: &[u8] = b"job a version 0 done rounds 3\n0 0\n1 1\n2 1\n3 2\n";
+fn usage() -> &'static [u8] {
+    b"graphm: usage: run GRID JOBS WORKERS CHUNK, build EDGES GRID N PARTS, info GRID CHUNK, drill NUMBER SCALE WORKERS\n"
+}
 
-const WORDS: [&str; 5] = ["run", "a.grid", "j.txt", "1", "1"];
+fn grid_failed() -> &'static [u8] {
+    b"graphm: a.grid: read failed\n"
+}
+
+fn jobs_failed() -> &'static [u8] {
+    b"graphm: j.txt: read failed\n"
+}
 
 /// How a call ended.
 #[derive(Drop)]
@@ -28,15 +37,16 @@ struct End {
     err: MemSink,
 }
 
+/// Calls the program with words that are parted by a blank each.
 fn call(
     rt: &HostRuntime,
-    words: &[&str],
+    words: &str,
     depot: MemDepot,
     out: MemSink,
     err: MemSink,
 ) -> Result<End, Fail> {
     let mut all = Words::new(rt.alloc());
-    for word in words {
+    for word in words.split(' ') {
         all.push(word)?;
     }
     let gate = Arc::new(rt.alloc(), OpenGate)?;
@@ -45,105 +55,113 @@ fn call(
     Ok(End { status, out, err })
 }
 
-fn depot(rt: &HostRuntime, grid: &[u8], fails: &[(Call, u64)]) -> Result<MemDepot, Fail> {
-    let mut depot = MemDepot::new(rt.alloc(), fails.to_vec(rt.alloc())?);
+fn depot_of(rt: &HostRuntime, grid: &[u8], fails: Vec<(Call, u64)>) -> Result<MemDepot, Fail> {
+    let mut depot = MemDepot::new(rt.alloc(), fails);
     depot.put("a.grid", grid)?;
-    depot.put("j.txt", JOBS)?;
+    depot.put("j.txt", b"job a bfs 0\n")?;
     Ok(depot)
 }
 
-fn sink(rt: &HostRuntime, fails: &[(u64, usize)]) -> Result<MemSink, Fail> {
-    Ok(MemSink::new(rt.alloc(), fails.to_vec(rt.alloc())?))
+/// Runs the job over the grid, where this call fails.
+fn run_failing(rt: &HostRuntime, kind: Call, number: u64) -> Result<End, Fail> {
+    let fails = vec![in rt.alloc(); (kind, number)]?;
+    let depot = depot_of(rt, way_file(), fails)?;
+    let (out, err) = (
+        MemSink::new(rt.alloc(), Vec::new(rt.alloc())),
+        MemSink::new(rt.alloc(), Vec::new(rt.alloc())),
+    );
+    call(rt, "run a.grid j.txt 1 1", depot, out, err)
+}
+
+/// Runs the words over these bytes as the grid.
+fn run_over(rt: &HostRuntime, words: &str, grid: &[u8]) -> Result<End, Fail> {
+    let depot = depot_of(rt, grid, Vec::new(rt.alloc()))?;
+    let (out, err) = (
+        MemSink::new(rt.alloc(), Vec::new(rt.alloc())),
+        MemSink::new(rt.alloc(), Vec::new(rt.alloc())),
+    );
+    call(rt, words, depot, out, err)
 }
 
 #[test]
 fn each_call_fails_in_turn(rt: HostRuntime) -> Result<(), Fail> {
-    let grid_failed = b"graphm: a.grid: read failed\n".as_slice();
-    let jobs_failed = b"graphm: j.txt: read failed\n".as_slice();
-    let table = [
-        (Call::Size, 1, 6, grid_failed, b"".as_slice()),
-        (Call::Read, 1, 6, grid_failed, b""),
-        (Call::Size, 2, 6, jobs_failed, b""),
-        (Call::Read, 2, 6, jobs_failed, b""),
-        (Call::Size, 3, 0, b"", REPORT),
-        (Call::Read, 3, 0, b"", REPORT),
-    ];
-    for (kind, number, status, line, report) in table {
-        let depot = depot(&rt, &GRID, &[(kind, number)])?;
-        let end = call(&rt, &WORDS, depot, sink(&rt, &[])?, sink(&rt, &[])?)?;
-        assert_eq!(rt; end.status, status, "{kind:?} {number}");
-        assert_eq!(rt; end.err.written(), line, "{kind:?} {number}");
-        assert_eq!(rt; end.out.written(), report, "{kind:?} {number}");
+    for kind in [Call::Size, Call::Read] {
+        for number in 1..4 {
+            let end = run_failing(&rt, kind, number)?;
+            let line = match number {
+                1 => grid_failed(),
+                2 => jobs_failed(),
+                _ => b"",
+            };
+            assert_eq!(rt;
+                end.status,
+                if number < 3 { 6 } else { 0 },
+                "{kind:?} {number}"
+            );
+            assert_eq!(rt; end.err.written(), line, "{kind:?} {number}");
+            let out: &[u8] = if number < 3 { b"" } else { report() };
+            assert_eq!(rt; end.out.written(), out, "{kind:?} {number}");
+        }
     }
     Ok(())
 }
 
 #[test]
-fn output_fails_at_its_first_write(rt: HostRuntime) -> Result<(), Fail> {
+fn a_sink_fails_at_its_first_write(rt: HostRuntime) -> Result<(), Fail> {
     for count in [0, 10, 45] {
-        let end = call(
-            &rt,
-            &WORDS,
-            depot(&rt, &GRID, &[])?,
-            sink(&rt, &[(1, count)])?,
-            sink(&rt, &[])?,
-        )?;
+        let depot = depot_of(&rt, way_file(), Vec::new(rt.alloc()))?;
+        let out = MemSink::new(rt.alloc(), vec![in rt.alloc(); (1, count)]?);
+        let err = MemSink::new(rt.alloc(), Vec::new(rt.alloc()));
+        let end = call(&rt, "run a.grid j.txt 1 1", depot, out, err)?;
         assert_eq!(rt; end.status, 7);
         assert_eq!(rt; end.out.written().len(), count);
-        assert!(rt; REPORT.starts_with(end.out.written()));
+        assert!(rt; report().starts_with(end.out.written()));
         assert_eq!(rt; end.err.written(), b"graphm: output failed\n".as_slice());
     }
+    let depot = depot_of(&rt, way_file(), vec![in rt.alloc(); (Call::Read, 1)]?)?;
+    let out = MemSink::new(rt.alloc(), Vec::new(rt.alloc()));
+    let err = MemSink::new(rt.alloc(), vec![in rt.alloc(); (1, 12)]?);
+    let end = call(&rt, "run a.grid j.txt 1 1", depot, out, err)?;
+    assert_eq!(rt; end.status, 6);
+    assert_eq!(rt; end.err.written(), b"graphm: a.gr".as_slice());
+    assert_eq!(rt; end.out.written().len(), 0);
     Ok(())
 }
 
-#[test]
-fn standard_error_fails_at_its_first_write(rt: HostRuntime) -> Result<(), Fail> {
-    let depot = depot(&rt, &GRID, &[(Call::Read, 1)])?;
-    let end = call(&rt, &WORDS, depot, sink(&rt, &[])?, sink(&rt, &[(1, 12)])?)?;
-    assert_eq!(rt; end.status, 6);
-    assert_eq!(rt; end.err.written(), b"graphm: a.gr".as_slice());
-    assert_eq!(rt; end.out.written(), b"".as_slice());
-    Ok(())
+/// Words, the status that they end with, and their line.
+fn refused(case: usize) -> (&'static str, u8, &'static [u8]) {
+    match case {
+        0 => ("run b.grid j.txt 1 1", 3, b"graphm: b.grid: no such file\n"),
+        1 => (
+            "run a.grid b.txt 1 65536",
+            3,
+            b"graphm: b.txt: no such file\n",
+        ),
+        2 => (
+            "run a.grid a.grid 1 1",
+            5,
+            b"graphm: a.grid: not built yet\n",
+        ),
+        3 => ("run j.txt j.txt 1 1", 4, b"graphm: j.txt: bad grid\n"),
+        4 => ("run a.grid j.txt 0 1", 2, usage()),
+        5 => ("run a.grid j.txt 2 1", 2, usage()),
+        6 => ("run a.grid j.txt 1 0", 2, usage()),
+        7 => ("run a.grid j.txt 1 65537", 2, usage()),
+        8 => ("run  j.txt 1 1", 2, usage()),
+        9 => ("run a.grid -j.txt 1 1", 2, usage()),
+        10 => ("ruN a.grid j.txt 1 1", 2, usage()),
+        _ => ("", 2, usage()),
+    }
 }
 
 #[test]
 fn words_and_files_are_refused(rt: HostRuntime) -> Result<(), Fail> {
-    let missing_grid = b"graphm: b.grid: no such file\n".as_slice();
-    let missing_jobs = b"graphm: b.txt: no such file\n".as_slice();
-    let usage =
-        b"graphm: usage: run GRID JOBS WORKERS CHUNK, build EDGES GRID N PARTS, info GRID CHUNK, drill NUMBER SCALE WORKERS\n".as_slice();
-    let table = [
-        (["run", "b.grid", "j.txt", "1", "1"], 3, missing_grid),
-        (["run", "a.grid", "b.txt", "1", "65536"], 3, missing_jobs),
-        (
-            ["run", "a.grid", "a.grid", "1", "1"],
-            5,
-            b"graphm: a.grid: not built yet\n",
-        ),
-        (
-            ["run", "j.txt", "j.txt", "1", "1"],
-            4,
-            b"graphm: j.txt: bad grid\n",
-        ),
-        (["run", "a.grid", "j.txt", "0", "1"], 2, usage),
-        (["run", "a.grid", "j.txt", "2", "1"], 2, usage),
-        (["run", "a.grid", "j.txt", "1", "0"], 2, usage),
-        (["run", "a.grid", "j.txt", "1", "65537"], 2, usage),
-        (["run", "", "j.txt", "1", "1"], 2, usage),
-        (["run", "a.grid", "-j.txt", "1", "1"], 2, usage),
-        (["ruN", "a.grid", "j.txt", "1", "1"], 2, usage),
-    ];
-    for (words, status, line) in table {
-        let end = call(
-            &rt,
-            words.as_slice(),
-            depot(&rt, &GRID, &[])?,
-            sink(&rt, &[])?,
-            sink(&rt, &[])?,
-        )?;
-        assert_eq!(rt; end.status, status, "{words:?}");
-        assert_eq!(rt; end.err.written(), line, "{words:?}");
-        assert_eq!(rt; end.out.written(), b"".as_slice(), "{words:?}");
+    for case in 0..12 {
+        let (words, status, line) = refused(case);
+        let end = run_over(&rt, words, way_file())?;
+        assert_eq!(rt; end.status, status, "{words}");
+        assert_eq!(rt; end.err.written(), line, "{words}");
+        assert_eq!(rt; end.out.written().len(), 0, "{words}");
     }
     Ok(())
 }
@@ -155,23 +173,34 @@ fn report_with_byte_changed(place: usize) -> Option<&'static [u8]> {
         72 => Some(b"job a version 0 done rounds 4\n0 0\n1 1\n2 2\n3 3\n"),
         76 => Some(b"job a version 0 done rounds 3\n0 0\n1 1\n2 2\n3 1\n"),
         84 | 88 => Some(b"job a version 0 done rounds 2\n0 0\n1 1\n2 1\n3 -\n"),
-        56..=60 | 64 | 68..=71 | 80..=83 | 92..=95 => Some(REPORT),
+        56..=60 | 64 | 68..=71 | 80..=83 | 92..=95 => Some(report()),
         _ => None,
+    }
+}
+
+/// The file with one byte changed in its lowest bit.
+fn changed_at(rt: &HostRuntime, place: usize) -> Result<Vec<u8>, Fail> {
+    let mut bytes = way_file().to_vec(rt.alloc())?;
+    if place < bytes.len() {
+        bytes[place] ^= 1;
+    }
+    Ok(bytes)
+}
+
+/// The front of the file.
+fn cut_at(place: usize) -> &'static [u8] {
+    let file = way_file();
+    if place < file.len() {
+        &file[..place]
+    } else {
+        file
     }
 }
 
 #[test]
 fn each_byte_of_the_grid_counts(rt: HostRuntime) -> Result<(), Fail> {
     for place in 0..96 {
-        let mut grid = GRID;
-        grid[place] ^= 1;
-        let end = call(
-            &rt,
-            &WORDS,
-            depot(&rt, &grid, &[])?,
-            sink(&rt, &[])?,
-            sink(&rt, &[])?,
-        )?;
+        let end = run_over(&rt, "run a.grid j.txt 1 1", &changed_at(&rt, place)?)?;
         match report_with_byte_changed(place) {
             Some(report) => assert_eq!(rt; end.out.written(), report, "at {place}"),
             None => assert_eq!(rt;
@@ -180,15 +209,9 @@ fn each_byte_of_the_grid_counts(rt: HostRuntime) -> Result<(), Fail> {
                 "at {place}"
             ),
         }
-        let cut = call(
-            &rt,
-            &WORDS,
-            depot(&rt, &GRID[..place], &[])?,
-            sink(&rt, &[])?,
-            sink(&rt, &[])?,
-        )?;
+        let cut = run_over(&rt, "run a.grid j.txt 1 1", cut_at(place))?;
         assert_eq!(rt; cut.status, 4, "at {place}");
-        assert_eq!(rt; cut.out.written(), b"".as_slice(), "at {place}");
+        assert_eq!(rt; cut.out.written().len(), 0, "at {place}");
     }
     Ok(())
 }

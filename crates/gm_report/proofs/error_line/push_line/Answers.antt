@@ -1,6 +1,6 @@
 use Rattle.std.proofs.lemmas.Result.{err_from_is_err_and}
 use Rattle.gm_report.specs.Pieces.{streams-then, streams-then_refused}
-use Rattle.gm_top.proofs.standard_error.push_line.Goals as goal
+use Rattle.gm_report.proofs.error_line.push_line.Goals as goal
 
 pub returns-in_err-push_all-2-clause-err : goal.returns-in_err-push_all-2-clause-err
 returns-in_err-push_all-2-clause-err g c =

@@ -1,0 +1,14 @@
+//! The definition of the file that is built, computed on a small graph that was worked out by hand.
+#![tactic(auto, unfolding(crate::specs::Blocks::built_file))]
+
+ghost use Rattle.std.specs.Prelude.{◌≡◌};
+ghost use Rattle.gm_base.specs.Examples.{way_with_shortcut};
+ghost use Rattle.gm_grid.specs.Format.{dimensions};
+ghost use Rattle.gm_grid.specs.Examples.{way_file, way_blocks};
+ghost use Rattle.gm_build.specs.Blocks.{blocks_from, built_file};
+
+/// A way over four vertices with a shortcut, in two ranges.
+pub fn file_of_a_way()
+    ensures blocks { blocks_from (dimensions 4 2) way_with_shortcut ≡ way_blocks }
+    ensures bytes { built_file (dimensions 4 2) way_with_shortcut ≡ way_file }
+{}

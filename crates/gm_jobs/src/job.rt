@@ -1,0 +1,141 @@
+//! The job that a line states.
+
+ghost use Rattle.std.specs.Prelude.{◌≡◌, ◌≤◌, ◌^◌, IfOk, IfSome, IfNone, Some, None};
+ghost use Rattle.gm_base.specs.Texts.{words_of};
+ghost use Rattle.gm_jobs.specs.JobText.{vertex_in, rounds_in, only_rounds, bound_of, source_and_bound, spec_of, job_of_words, job_of_text};
+
+use crate::text::{is_word, next_statement, next_word};
+use gm_base::{Memory, Name, NameError, Spec, number};
+use std::alloc::Global;
+
+/// A job of a job text.
+#[derive(Drop)]
+pub struct Job {
+    pub name: Name,
+    pub spec: Spec,
+}
+
+/// The greatest number of rounds that a text may state.
+const MOST_ROUNDS: u64 = 1_000_000;
+
+/// The vertex that a word names: a number below n.
+fn vertex(word: &[u8], n: u32) -> Option<u32>
+    ensures { result ≡ vertex_in n word.now }
+{
+    let vertex = number(word, u64::MAX)?;
+    if vertex < u64::from(n) {
+        Some(vertex as u32)
+    } else {
+        None
+    }
+}
+
+/// The number of rounds that a word states, from 1 to 1,000,000.
+fn rounds(word: &[u8]) -> Option<u32>
+    ensures { result ≡ rounds_in word.now }
+{
+    let rounds = number(word, u64::MAX)?;
+    if 1 <= rounds && rounds <= MOST_ROUNDS {
+        Some(rounds as u32)
+    } else {
+        None
+    }
+}
+
+/// The number of rounds that the last word of a line states.
+fn only_rounds(line: &[u8]) -> Option<u32>
+    ensures { result ≡ only_rounds (words_of line.now) }
+{
+    let (word, rest) = next_word(line)?;
+    match next_word(rest) {
+        Some(_) => None,
+        None => rounds(word),
+    }
+}
+
+/// The bound that the last words of a line state: n + 1 where there are none.
+fn bound(line: &[u8], n: u32) -> Option<u32>
+    requires { n ≤ 2 ^ 20 }
+    ensures { result ≡ bound_of n (words_of line.now) }
+{
+    match next_word(line) {
+        None => Some(n + 1),
+        Some((word, rest)) if is_word(word, b"rounds") => only_rounds(rest),
+        Some(_) => None,
+    }
+}
+
+/// A source vertex, and then maybe a bound.
+fn source_and_bound(line: &[u8], n: u32) -> Option<(u32, u32)>
+    requires { n ≤ 2 ^ 20 }
+    ensures { result ≡ source_and_bound n (words_of line.now) }
+{
+    let (word, rest) = next_word(line)?;
+    Some((vertex(word, n)?, bound(rest, n)?))
+}
+
+/// What a job computes, by the words behind its name.
+fn spec(line: &[u8], n: u32) -> Option<Spec>
+    requires { n ≤ 2 ^ 20 }
+    ensures { result ≡ spec_of n (words_of line.now) }
+{
+    let (kind, rest) = next_word(line)?;
+    if is_word(kind, b"bfs") {
+        let (source, bound) = source_and_bound(rest, n)?;
+        Some(Spec::Bfs { source, bound })
+    } else if is_word(kind, b"sssp") {
+        let (source, bound) = source_and_bound(rest, n)?;
+        Some(Spec::Sssp { source, bound })
+    } else if is_word(kind, b"wcc") {
+        let bound = bound(rest, n)?;
+        Some(Spec::Wcc { bound })
+    } else if is_word(kind, b"rank") {
+        let rounds = only_rounds(rest)?;
+        Some(Spec::Rank { rounds })
+    } else {
+        None
+    }
+}
+
+/// The job that a line states, if it states one.
+fn job_in(alloc: Global, line: &[u8], n: u32) -> Result<Option<Job>, Memory>
+    requires { n ≤ 2 ^ 20 }
+    ensures none { IfOk result (λ job. IfNone job (job_of_words n (words_of line.now) ≡ None)) }
+    ensures some { IfOk result (λ job. IfSome job (λ it. job_of_words n (words_of line.now) ≡ Some (record { name = it.name; spec = it.spec }))) }
+{
+    let Some((word, rest)) = next_word(line) else {
+        return Ok(None);
+    };
+    if !is_word(word, b"job") {
+        return Ok(None);
+    }
+    let Some((name, rest)) = next_word(rest) else {
+        return Ok(None);
+    };
+    let Some(spec) = spec(rest, n) else {
+        return Ok(None);
+    };
+    match Name::new(alloc, name) {
+        Ok(name) => Ok(Some(Job { name, spec })),
+        Err(NameError::BadName) => Ok(None),
+        Err(NameError::Memory) => Err(Memory),
+    }
+}
+
+/// The job of a text over n vertices, 1 to 2^20. A text is taken exactly where one line alone means something and is
+/// `job NAME bfs S`, `job NAME sssp S` or `job NAME wcc`, each maybe with `rounds R` behind it, or `job NAME rank K`. NAME is 1 to
+/// 32 ASCII letters, digits, `_`, `-` and `.`, S is below n, and R and K are 1 to 1,000,000. Where no bound is stated it is
+/// n + 1. For every other text the answer is `None`. The only error is that there was no memory for the name.
+pub fn read_job(alloc: Global, text: &[u8], n: u32) -> Result<Option<Job>, Memory>
+    requires { (1 ≤ n) × (n ≤ 2 ^ 20) }
+    ensures none { IfOk result (λ job. IfNone job (job_of_text n text.now ≡ None)) }
+    ensures some { IfOk result (λ job. IfSome job (λ it. job_of_text n text.now ≡ Some (record { name = it.name; spec = it.spec }))) }
+{
+    let Some((line, rest)) = next_statement(text) else {
+        return Ok(None);
+    };
+    if next_statement(rest).is_some() {
+        return Ok(None);
+    }
+    job_in(alloc, line, n)
+}

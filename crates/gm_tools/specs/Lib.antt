@@ -1,0 +1,4 @@
+pub mod Commands
+pub mod Failures
+pub mod Readings
+pub mod Endings

@@ -1,0 +1,148 @@
+//! Builds over files in memory: texts, statuses, and each call failing in turn.
+
+use crate::tool;
+use gm_base::Words;
+use gm_outside::{Call, MemDepot, MemSink};
+use std::test::Fail;
+
+/// Four vertices in two ranges: 0 to 1, 1 to 2, 0 to 2 of weight 5, 2 to 3.
+const LIST: &[u8] = b"# Nodes: 4 Edges: 4\r\n0\t1\r\n1\t2\r\n0\t2\t5\r\n2\t3";
+
+/// Their grid.
+const GRID: &[u8] = b"GGRID001\x04\0\0\0\x02\0\0\0\
+    \x01\0\0\0\0\0\0\0\x02\0\0\0\0\0\0\0\0\0\0\0\0\0\0\0\x01\0\0\0\0\0\0\0\
+    \0\0\0\0\x01\0\0\0\x01\0\0\0\x01\0\0\0\x02\0\0\0\x01\0\0\0\
+    \0\0\0\0\x02\0\0\0\x05\0\0\0\x02\0\0\0\x03\0\0\0\x01\0\0\0";
+
+/// The grid of four vertices in two ranges without edges.
+const EMPTY_GRID: &[u8] = b"GGRID001\x04\0\0\0\x02\0\0\0\
+    \0\0\0\0\0\0\0\0\0\0\0\0\0\0\0\0\0\0\0\0\0\0\0\0\0\0\0\0\0\0\0\0";
+
+const OUTPUT: &[u8] = b"edges 4 blocks 4\n";
+
+const WORDS: [&str; 5] = ["build", "e.txt", "a.grid", "4", "2"];
+
+/// How a call ended.
+#[derive(Drop)]
+struct End {
+    status: u8,
+    depot: MemDepot,
+    out: MemSink,
+    err: MemSink,
+}
+
+/// What a call does over one file, e.txt.
+fn call(
+    rt: &HostRuntime,
+    words: &[&str],
+    text: &[u8],
+    fails: &[(Call, u64)],
+    out_fails: &[(u64, usize)],
+) -> Result<End, Fail> {
+    let mut all = Words::new(rt.alloc());
+    for word in words {
+        all.push(word)?;
+    }
+    let mut depot = MemDepot::new(rt.alloc(), fails.to_vec(rt.alloc())?);
+    depot.put("e.txt", text)?;
+    let mut out = MemSink::new(rt.alloc(), out_fails.to_vec(rt.alloc())?);
+    let mut err = MemSink::new(rt.alloc(), Vec::new(rt.alloc()));
+    let status = tool(rt.alloc(), &all, &mut depot, &mut out, &mut err);
+    Ok(End {
+        status,
+        depot,
+        out,
+        err,
+    })
+}
+
+/// Whether the grid's file has these bytes, or is missing.
+fn has_grid(depot: &MemDepot, expected: Option<&[u8]>) -> bool {
+    match (depot.file("a.grid"), expected) {
+        (Some(bytes), Some(grid)) => bytes == grid,
+        (None, None) => true,
+        _ => false,
+    }
+}
+
+#[test]
+fn texts_are_built_or_refused(rt: HostRuntime) -> Result<(), Fail> {
+    let table: [(&[u8], u8, &[u8], &[u8], Option<&[u8]>); 4] = [
+        (LIST, 0, OUTPUT, b"", Some(GRID)),
+        (b"", 0, b"edges 0 blocks 4\n", b"", Some(EMPTY_GRID)),
+        (
+            b"0 1\n1 x\n",
+            4,
+            b"",
+            b"graphm: e.txt: line 2: not an edge\n",
+            None,
+        ),
+        (
+            b"0 4",
+            4,
+            b"",
+            b"graphm: e.txt: line 1: no such vertex\n",
+            None,
+        ),
+    ];
+    for (text, status, output, line, grid) in table {
+        let end = call(&rt, &WORDS, text, &[], &[])?;
+        assert_eq!(rt; end.status, status, "{text:?}");
+        assert_eq!(rt; end.out.written(), output, "{text:?}");
+        assert_eq!(rt; end.err.written(), line, "{text:?}");
+        assert!(rt; has_grid(&end.depot, grid), "{text:?}");
+    }
+    Ok(())
+}
+
+#[test]
+fn each_call_fails_in_turn(rt: HostRuntime) -> Result<(), Fail> {
+    let read_failed = b"graphm: e.txt: read failed\n".as_slice();
+    let write_failed = b"graphm: a.grid: write failed\n".as_slice();
+    let table = [
+        (Call::Size, 1, 6, b"".as_slice(), read_failed),
+        (Call::Read, 1, 6, b"", read_failed),
+        (Call::Create, 1, 6, b"", write_failed),
+        (Call::Append, 1, 6, b"", write_failed),
+        (Call::Append, 2, 0, OUTPUT, b""),
+    ];
+    for (kind, number, status, output, line) in table {
+        let end = call(&rt, &WORDS, LIST, &[(kind, number)], &[])?;
+        assert_eq!(rt; end.status, status, "{kind:?} {number}");
+        assert_eq!(rt; end.out.written(), output, "{kind:?} {number}");
+        assert_eq!(rt; end.err.written(), line, "{kind:?} {number}");
+    }
+    Ok(())
+}
+
+#[test]
+fn output_fails_at_its_first_write(rt: HostRuntime) -> Result<(), Fail> {
+    let end = call(&rt, &WORDS, LIST, &[], &[(1, 3)])?;
+    assert_eq!(rt; end.status, 7);
+    assert_eq!(rt; end.out.written(), b"edg".as_slice());
+    assert_eq!(rt; end.err.written(), b"graphm: output failed\n".as_slice());
+    assert!(rt; has_grid(&end.depot, Some(GRID)));
+    Ok(())
+}
+
+#[test]
+fn words_are_refused(rt: HostRuntime) -> Result<(), Fail> {
+    let usage =
+        b"graphm: usage: run GRID JOBS WORKERS CHUNK, build EDGES GRID N PARTS, info GRID CHUNK, drill NUMBER SCALE WORKERS\n".as_slice();
+    let missing = b"graphm: b.txt: no such file\n".as_slice();
+    let table: [(&[&str], u8, &[u8]); 5] = [
+        (&["build", "b.txt", "a.grid", "4", "2"], 3, missing),
+        (&["build", "e.txt", "e.txt", "4", "2"], 2, usage),
+        (&["build", "e.txt", "a.grid", "4", "5"], 2, usage),
+        (&["--help"], 2, usage),
+        (&[], 2, usage),
+    ];
+    for (words, status, line) in table {
+        let end = call(&rt, words, LIST, &[], &[])?;
+        assert_eq!(rt; end.status, status, "{words:?}");
+        assert_eq!(rt; end.out.written(), b"".as_slice(), "{words:?}");
+        assert_eq!(rt; end.err.written(), line, "{words:?}");
+        assert!(rt; has_grid(&end.depot, None), "{words:?}");
+    }
+    Ok(())
+}
