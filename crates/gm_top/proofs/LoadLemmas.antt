@@ -6,7 +6,7 @@ use Rattle.gm_base.specs.declared.job.Outcome.{Outcome}
 use Rattle.gm_base.specs.Runs.{lone_run}
 use Rattle.gm_outside.specs.Files.{Files}
 use Rattle.gm_top.specs.Commands.{RunCommand}
-use Rattle.gm_top.specs.JobText.{Job}
+use Rattle.gm_jobs.specs.JobText.{Job}
 use Rattle.gm_top.specs.Loads.{HoldsGrid, TellsJob}
 use Rattle.gm_top.specs.Reports.{AreLinesOf}
 

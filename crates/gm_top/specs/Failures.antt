@@ -10,7 +10,7 @@ use Rattle.gm_top.specs.declared.failure.Place.TheVariants.{Grid, Jobs}
 use Rattle.gm_top.specs.declared.failure.Failure.{Failure}
 use Rattle.gm_top.specs.declared.failure.Failure.TheVariants.{NoSuchFile, BadGrid, NotBuiltYet, ReadFailed, OutputFailed, OutOfMemory}
 use Rattle.gm_top.specs.Commands.{RunCommand}
-use Rattle.gm_top.specs.JobText.{job_of_text}
+use Rattle.gm_jobs.specs.JobText.{job_of_text}
 
 -- the command's word for a file
 abbrev pub name_of : RunCommand → Place → List ℕ

@@ -4,4 +4,3 @@ pub mod Failures
 pub mod Reports
 pub mod Loads
 pub mod Endings
-pub mod JobText

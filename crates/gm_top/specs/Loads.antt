@@ -11,7 +11,7 @@ use Rattle.gm_top.specs.declared.failure.Failure.{Failure}
 use Rattle.gm_top.specs.declared.failure.Failure.TheVariants.{NoSuchFile, BadGrid}
 use Rattle.gm_top.specs.declared.failure.Place.TheVariants.{Grid}
 use Rattle.gm_top.specs.Commands.{RunCommand}
-use Rattle.gm_top.specs.JobText.{Job, job_of_text}
+use Rattle.gm_jobs.specs.JobText.{Job, job_of_text}
 use Rattle.gm_top.specs.Failures.{jobs_refusal, grid_and_jobs_refusal}
 
 -- the command that these words are

@@ -14,7 +14,7 @@ use Rattle.gm_outside.specs.Growth.{GrewBy, GrewByPrefix}
 use Rattle.gm_report.specs.Report.{report_text}
 use Rattle.gm_top.specs.declared.failure.Failure.{Failure}
 use Rattle.gm_top.specs.declared.failure.Failure.TheVariants.{NoSuchFile, BadGrid, NotBuiltYet, ReadFailed, OutputFailed, OutOfMemory}
-use Rattle.gm_top.specs.JobText.{Job, job_of_text}
+use Rattle.gm_jobs.specs.JobText.{Job, job_of_text}
 
 abbrev pub is_failure : Outcome → Bool
 is_failure (Done rounds values) = false

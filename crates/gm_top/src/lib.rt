@@ -4,7 +4,6 @@
 mod command;
 mod examples;
 mod failure;
-mod job_text;
 mod program;
 mod rounds;
 mod run;
@@ -12,6 +11,6 @@ mod standard_error;
 #[cfg(test)]
 mod tests;
 
-pub use examples::{text_of_a_job, words_of_a_run};
+pub use examples::words_of_a_run;
 pub use failure::{Failure, Place};
 pub use program::graphm;

@@ -12,10 +12,10 @@ ghost use Rattle.gm_top.specs.Loads.{said, HoldsGrid, TellsJob};
 
 use crate::command::RunCommand;
 use crate::failure::{Failure, Place};
-use crate::job_text::{Job, read_job};
 use crate::rounds::lone_run;
 use gm_base::{JobLine, Memory, Outcome};
 use gm_grid::{Grid, ReadError, read_grid};
+use gm_jobs::{Job, read_job};
 use gm_outside::{Depot, Sink, Trouble, read_whole};
 use gm_report::write;
 use std::alloc::Global;

@@ -215,3 +215,131 @@ fn each_byte_of_the_grid_counts(rt: HostRuntime) -> Result<(), Fail> {
     }
     Ok(())
 }
+
+/// Files of a graph of four vertices whose vertex 1 is joined to the others only against the direction of edges, of one vertex, of a way of
+/// three vertices with the greatest weights, and of three vertices with an edge from 0 to itself and two to 1.
+fn other_file(case: usize) -> &'static [u8] {
+    match case {
+        0 =>
+            b"GGRID001\x04\0\0\0\x02\0\0\0\0\0\0\0\0\0\0\0\x01\0\0\0\0\0\0\0\x01\0\0\0\0\0\0\0\x01\0\0\0\0\0\0\0\x01\0\0\0\x02\0\0\0\x01\0\0\0\x03\0\0\0\0\0\0\0\x01\0\0\0\x03\0\0\0\x02\0\0\0\x01\0\0\0",
+        1 => b"GGRID001\x01\0\0\0\x01\0\0\0\0\0\0\0\0\0\0\0",
+        2 =>
+            b"GGRID001\x03\0\0\0\x01\0\0\0\x02\0\0\0\0\0\0\0\0\0\0\0\x01\0\0\0\xff\xff\xff\xff\x01\0\0\0\x02\0\0\0\xff\xff\xff\xff",
+        _ =>
+            b"GGRID001\x03\0\0\0\x01\0\0\0\x03\0\0\0\0\0\0\0\0\0\0\0\0\0\0\0\x07\0\0\0\0\0\0\0\x01\0\0\0\x04\0\0\0\0\0\0\0\x01\0\0\0\x02\0\0\0",
+    }
+}
+
+/// A job's file, its text, the status and the report.
+fn job(case: usize) -> (&'static [u8], &'static [u8], u8, &'static [u8]) {
+    match case {
+        0 => (way_file(), b"job a bfs 0", 0, report()),
+        1 => (
+            way_file(),
+            b"job a sssp 0",
+            0,
+            b"job a version 0 done rounds 4\n0 0\n1 1\n2 2\n3 3\n",
+        ),
+        2 => (
+            way_file(),
+            b"job a sssp 0 rounds 4",
+            0,
+            b"job a version 0 done rounds 4\n0 0\n1 1\n2 2\n3 3\n",
+        ),
+        3 => (
+            way_file(),
+            b"job a sssp 0 rounds 3",
+            1,
+            b"job a version 0 failed rounds 3\n",
+        ),
+        4 => (
+            way_file(),
+            b"job a wcc",
+            0,
+            b"job a version 0 done rounds 3\n0 0\n1 0\n2 0\n3 0\n",
+        ),
+        5 => (
+            way_file(),
+            b"job a rank 1",
+            0,
+            b"job a version 0 done rounds 1\n0 150000000\n1 575000000\n2 1425000000\n3 1000000000\n",
+        ),
+        6 => (
+            way_file(),
+            b"job a rank 2",
+            0,
+            b"job a version 0 done rounds 2\n0 150000000\n1 213750000\n2 702500000\n3 1361250000\n",
+        ),
+        7 => (
+            other_file(0),
+            b"job a wcc",
+            0,
+            b"job a version 0 done rounds 4\n0 0\n1 0\n2 0\n3 0\n",
+        ),
+        8 => (
+            other_file(1),
+            b"job a bfs 0",
+            0,
+            b"job a version 0 done rounds 1\n0 0\n",
+        ),
+        9 => (
+            other_file(1),
+            b"job a rank 3",
+            0,
+            b"job a version 0 done rounds 3\n0 150000000\n",
+        ),
+        10 => (
+            other_file(2),
+            b"job a sssp 0",
+            0,
+            b"job a version 0 done rounds 3\n0 0\n1 4294967295\n2 8589934590\n",
+        ),
+        11 => (
+            other_file(3),
+            b"job a bfs 0",
+            0,
+            b"job a version 0 done rounds 2\n0 0\n1 1\n2 -\n",
+        ),
+        12 => (
+            other_file(3),
+            b"job a sssp 0",
+            0,
+            b"job a version 0 done rounds 2\n0 0\n1 2\n2 -\n",
+        ),
+        13 => (
+            other_file(3),
+            b"job a wcc",
+            0,
+            b"job a version 0 done rounds 2\n0 0\n1 0\n2 2\n",
+        ),
+        14 => (
+            other_file(3),
+            b"job a bfs 0 rounds 1",
+            1,
+            b"job a version 0 failed rounds 1\n",
+        ),
+        _ => (
+            other_file(3),
+            b"job a bfs 2 rounds 1",
+            0,
+            b"job a version 0 done rounds 1\n0 -\n1 -\n2 0\n",
+        ),
+    }
+}
+
+#[test]
+fn each_kind_of_job_gives_its_report(rt: HostRuntime) -> Result<(), Fail> {
+    for case in 0..16 {
+        let (grid, jobs, status, report) = job(case);
+        let mut depot = MemDepot::new(rt.alloc(), Vec::new(rt.alloc()));
+        depot.put("a.grid", grid)?;
+        depot.put("j.txt", jobs)?;
+        let out = MemSink::new(rt.alloc(), Vec::new(rt.alloc()));
+        let err = MemSink::new(rt.alloc(), Vec::new(rt.alloc()));
+        let end = call(&rt, "run a.grid j.txt 1 1", depot, out, err)?;
+        assert_eq!(rt; end.status, status, "{case}");
+        assert_eq!(rt; end.out.written(), report, "{case}");
+        assert_eq!(rt; end.err.written().len(), 0, "{case}");
+    }
+    Ok(())
+}
