@@ -1,5 +1,5 @@
 -- The size of a grid: how many vertices it has, and into how many ranges they are cut.
-use Rattle.std.specs.Prelude.{ℕ, ◌+◌, ◌-◌, ◌*◌, ◌/◌, ◌^◌, ◌≤◌}
+use Rattle.std.specs.Prelude.{ℕ, ◌+◌, ◌-◌, ◌*◌, ◌/◌, ◌^◌, ◌≤◌, Bool, ◌&&◌, nat_le}
 use Rattle.gm_base.specs.declared.edge.Edge.{Edge}
 
 pub record Dimensions : Type 0 where
@@ -13,6 +13,10 @@ pub record AreDimensions (n parts : ℕ) : Type 0 where
   pub some_range : 1 ≤ parts
   pub ranges : parts ≤ 64
   pub no_more_ranges : parts ≤ n
+
+-- the same as a test
+abbrev pub are_dimensions : ℕ → ℕ → Bool
+are_dimensions n parts = nat_le 1 n && nat_le n (2 ^ 20) && nat_le 1 parts && nat_le parts 64 && nat_le parts n
 
 -- how many vertices a range has: n / parts, rounded up. Ranges at the end may be shorter or empty
 abbrev pub width_of : Dimensions → ℕ

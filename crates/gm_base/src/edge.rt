@@ -1,5 +1,8 @@
 //! Edges.
 
+/// The greatest number of edges, 2^24.
+pub const MOST_EDGES: u64 = 16_777_216;
+
 /// A directed edge from one vertex to another, with its weight. Vertices are counted from 0.
 #[derive(Clone, Copy, Debug, PartialEq, Eq)]
 pub struct Edge {

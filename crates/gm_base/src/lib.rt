@@ -14,7 +14,7 @@ mod shape;
 mod tests;
 mod words;
 
-pub use edge::Edge;
+pub use edge::{Edge, MOST_EDGES};
 pub use examples::{
     breadth_first_run, breadth_first_run_of_one_vertex, component_run, component_run_by_column,
     rank_run, rank_run_of_one_vertex, shortest_path_run,
@@ -24,7 +24,7 @@ pub use job::{JobLine, Outcome, Spec};
 pub use memory::Memory;
 pub use name::{Name, NameError};
 pub use numbers::{digits, number};
-pub use shape::Shape;
+pub use shape::{MOST_PARTS, MOST_VERTICES, Shape};
 pub use words::Words;
 
 /// The value of a vertex that isn't reached.

@@ -5,12 +5,11 @@ use Rattle.std.proofs.lemmas.List.Sums.{fold-append}
 use Rattle.gm_base.specs.declared.edge.Edge.{Edge}
 use Rattle.gm_edges.specs.declared.error.EdgeError.{EdgeError}
 use Rattle.gm_edges.specs.declared.error.EdgeError.TheVariants.{BadLine, NoVertex, TooManyEdges, Memory}
-use Rattle.gm_edges.specs.declared.scanner.Scanner.{Scanner}
 use Rattle.gm_edges.specs.EdgeText.{edge_list_of, ended_edges_of}
-use Rattle.gm_edges.specs.Scanner.{HasRead, IsUnlessMemory, IsRefusedAs, start, after_byte, after_bytes, answer_of}
+use Rattle.gm_edges.specs.Scanner.{ReaderState, HasRead, IsUnlessMemory, IsRefusedAs, start, after_byte, after_bytes, answer_of}
 use Rattle.gm_edges.proofs.Refusals.{refused_stays}
 use Rattle.gm_edges.proofs.Texts.{text_law, ended_of, ended_law}
-use Rattle.gm_edges.proofs.Graphs.{IsListed, listed_text}
+use Rattle.gm_edges.proofs.Graphs.{IsListed, listed_edges}
 
 pub unless_same : {A : Type 0} (answer : Result A EdgeError) → IsUnlessMemory answer answer
 unless_same (Ok value) = refl
@@ -40,7 +39,7 @@ unless_map f stays (Err (TooManyEdges line)) expected h = unless_equal (f (Err (
 unless_map f stays (Err Memory) expected h = rw (stays Memory) tt
 
 -- a reader that is fed reads on
-pub reads_on : (n : ℕ) (text piece : List ℕ) (old new : Result Scanner EdgeError) → HasRead n text old → IsUnlessMemory new (after_bytes old piece)
+pub reads_on : (n : ℕ) (text piece : List ℕ) (old new : ReaderState) → HasRead n text old → IsUnlessMemory new (after_bytes old piece)
     → HasRead n (text ++ piece) new
 reads_on n text piece old new read fed =
     record {
@@ -50,19 +49,19 @@ reads_on n text piece old new read fed =
     }
 
 -- a refused reader stays as it is
-pub fed_refused : (refusal : EdgeError) (reader : Result Scanner EdgeError) (piece : List ℕ) → reader ≡ Err refusal
+pub fed_refused : (refusal : EdgeError) (reader : ReaderState) (piece : List ℕ) → reader ≡ Err refusal
     → IsUnlessMemory reader (after_bytes reader piece)
 fed_refused refusal reader piece e = rw e (unless_equal (Err refusal) (after_bytes (Err refusal) piece) (refused_stays refusal piece))
 
 -- the refusals of a reader are those of the lines that have ended
-pub refused_as : {A : Type 0} (n : ℕ) (text : List ℕ) (reader : Result Scanner EdgeError) (result : Result A EdgeError) → HasRead n text reader
+pub refused_as : {A : Type 0} (n : ℕ) (text : List ℕ) (reader : ReaderState) (result : Result A EdgeError) → HasRead n text reader
     → MatchResult result (λ _. IsOk reader) (λ refusal. reader ≡ Err refusal) → IsRefusedAs result (ended_edges_of text n)
 refused_as n text reader result read answer = by_result reader result answer (rw (ended_law n text) at seen)
   where
     seen : IsUnlessMemory (ended_of reader) (ended_of (after_bytes (Ok (start n)) text))
     seen = unless_map ended_of (λ _. refl) reader (after_bytes (Ok (start n)) text) read.state
 
-    by_result : {A : Type 0} (reader : Result Scanner EdgeError) (result : Result A EdgeError)
+    by_result : {A : Type 0} (reader : ReaderState) (result : Result A EdgeError)
         → MatchResult result (λ _. IsOk reader) (λ refusal. reader ≡ Err refusal) → IsUnlessMemory (ended_of reader) (ended_edges_of text n)
         → IsRefusedAs result (ended_edges_of text n)
     by_result (Ok scanner) (Ok value) answer seen = rw seen refl
@@ -73,7 +72,7 @@ refused_as n text reader result read answer = by_result reader result answer (rw
     by_result reader (Err Memory) answer seen = tt
 
 -- what a reader of a whole text answers is the text's list of edges
-pub reads_all : (n : ℕ) (text : List ℕ) (reader : Result Scanner EdgeError) (result : Result (List Edge) EdgeError) → HasRead n text reader
+pub reads_all : (n : ℕ) (text : List ℕ) (reader : ReaderState) (result : Result (List Edge) EdgeError) → HasRead n text reader
     → IsUnlessMemory result (answer_of reader) → IsUnlessMemory result (edge_list_of text n)
 reads_all n text reader result read answer =
     unless_then result (answer_of reader) (edge_list_of text n) answer
@@ -81,11 +80,11 @@ reads_all n text reader result read answer =
 
 -- the edges of an answer are a graph
 pub listed_answer : (n : ℕ) (text : List ℕ) (result : Result (List Edge) EdgeError) → IsUnlessMemory result (edge_list_of text n) → IfOk result (IsListed n)
-listed_answer n text (Ok edges) h = rw h at (listed_text n text)
+listed_answer n text (Ok edges) h = listed_edges n text edges h
 listed_answer n text (Err refusal) h = tt
 
 -- the refusal of a reader is that of each text that goes on from there
-pub decided : {A : Type 0} (n : ℕ) (text rest : List ℕ) (reader : Result Scanner EdgeError) (result : Result A EdgeError) → HasRead n text reader
+pub decided : {A : Type 0} (n : ℕ) (text rest : List ℕ) (reader : ReaderState) (result : Result A EdgeError) → HasRead n text reader
     → MatchResult result (λ _. IsOk reader) (λ refusal. reader ≡ Err refusal)
     → IfErr result (λ refusal. IsUnlessMemory (Err refusal) (edge_list_of (text ++ rest) n))
 decided n text rest reader (Ok value) read answer = tt

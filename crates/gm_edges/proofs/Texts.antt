@@ -8,7 +8,7 @@ use Rattle.gm_edges.specs.declared.error.EdgeError.{EdgeError}
 use Rattle.gm_edges.specs.declared.line.Place.TheVariants.{First}
 use Rattle.gm_edges.specs.declared.scanner.Scanner.{Scanner}
 use Rattle.gm_edges.specs.EdgeText.{is_line_end, without_empty_rest, without_rest, edges_after, edges_after_line, next_number, edges_of_lines, most_edges, edge_list_of, ended_edges_of}
-use Rattle.gm_edges.specs.Scanner.{line_at, line_after, meaning_at_end, start, at_next_line, edges_at_end, answer_of, after_byte, after_bytes}
+use Rattle.gm_edges.specs.Scanner.{ReaderState, line_at, line_after, meaning_at_end, start, at_next_line, edges_at_end, answer_of, after_byte, after_bytes}
 use Rattle.gm_edges.proofs.Refusals.{refused_stays}
 use Rattle.gm_edges.proofs.Words.{line_means}
 
@@ -80,7 +80,7 @@ text_law n text =
     ∙ sym (empty_rest n 1 (Ok []) (slice_split is_line_end text))
 
 -- the edges of the lines that have ended
-abbrev pub ended_of : Result Scanner EdgeError → Result (List Edge) EdgeError
+abbrev pub ended_of : ReaderState → Result (List Edge) EdgeError
 ended_of (Ok scanner) = Ok scanner.edges
 ended_of (Err refusal) = Err refusal
 

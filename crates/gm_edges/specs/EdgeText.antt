@@ -1,8 +1,9 @@
 -- The text of an edge list. Its bytes make lines, a line's bytes make words, and a line's words are nothing, a comment, an edge or refused.
-use Rattle.std.specs.Prelude.{ℕ, ◌+◌, min, nat_lt, nat_le, Bool, true, false, ◌==◌, ◌&&◌, ◌||◌, if◌then◌else◌, List, [], ◌∷◌, ◌++◌, length, Option, Some, None, Result, Ok, Err, slice_index}
-use Rattle.std.specs.List.{slice_split, filter}
+use Rattle.std.specs.Prelude.{ℕ, ◌+◌, min, nat_lt, nat_le, ◌&&◌, if◌then◌else◌, List, [], ◌∷◌, ◌++◌, length, Option, Some, None, Result, Ok, Err}
+use Rattle.std.specs.List.{slice_split}
 use Rattle.gm_base.specs.declared.edge.Edge.{Edge}
 use Rattle.gm_base.specs.Graph.{edge}
+pub use Rattle.gm_base.specs.Graph.{most_edges}
 pub use Rattle.gm_base.specs.Texts.{is_line_end, is_blank, is_nonempty, without_empty_rest, lines_of, words_of, number_in, begins_comment}
 use Rattle.gm_edges.specs.declared.error.EdgeError.{EdgeError}
 use Rattle.gm_edges.specs.declared.error.EdgeError.TheVariants.{BadLine, NoVertex, TooManyEdges}
@@ -70,10 +71,6 @@ edges_of_lines n most number before (line ∷ more) =
 -- the edges of a text over n vertices, of which there may be so many, or its first refusal
 abbrev pub edge_list_up_to : ℕ → List ℕ → ℕ → Result (List Edge) EdgeError
 edge_list_up_to most text n = edges_of_lines n most 1 (Ok []) (lines_of text)
-
--- at most 2^24 edges
-abbrev pub most_edges : ℕ
-most_edges = 16777216
 
 -- the list of edges of a text over n vertices, or its first refusal
 abbrev pub edge_list_of : List ℕ → ℕ → Result (List Edge) EdgeError

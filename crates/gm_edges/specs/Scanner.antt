@@ -69,12 +69,16 @@ meaning_at Bad line = Refused
 abbrev pub meaning_at_end : Line → Meaning
 meaning_at_end line = meaning_at (after_blank line).place (after_blank line)
 
+-- what contracts see of a reader: what it knows of the text so far, or its refusal
+abbrev pub ReaderState : Type 0
+ReaderState = Result Scanner EdgeError
+
 -- at the beginning of a text over n vertices
 abbrev pub start : ℕ → Scanner
 start n = record { n = n; number = 1; line = line_at First; edges = [] }
 
 -- at the beginning of the next line, after these edges or a refusal
-abbrev pub at_next_line : Scanner → Result (List Edge) EdgeError → Result Scanner EdgeError
+abbrev pub at_next_line : Scanner → Result (List Edge) EdgeError → ReaderState
 at_next_line scanner (Ok edges) = Ok (record scanner { number = next_number scanner.number; line = line_at First; edges = edges })
 at_next_line scanner (Err refusal) = Err refusal
 
@@ -83,23 +87,23 @@ abbrev pub edges_at_end : Scanner → Result (List Edge) EdgeError
 edges_at_end scanner = edges_after scanner.n most_edges scanner.number scanner.edges (meaning_at_end scanner.line)
 
 -- the reader after one more byte. After a refusal it stays refused
-abbrev pub after_byte : Result Scanner EdgeError → ℕ → Result Scanner EdgeError
+abbrev pub after_byte : ReaderState → ℕ → ReaderState
 after_byte (Ok scanner) byte =
     if is_line_end byte then at_next_line scanner (edges_at_end scanner)
     else Ok (record scanner { line = line_after scanner.line byte })
 after_byte (Err refusal) byte = Err refusal
 
 -- the reader after these bytes
-abbrev pub after_bytes : Result Scanner EdgeError → List ℕ → Result Scanner EdgeError
+abbrev pub after_bytes : ReaderState → List ℕ → ReaderState
 after_bytes reader bytes = fold after_byte reader bytes
 
 -- the edges, if the text ends where the reader is
-abbrev pub answer_of : Result Scanner EdgeError → Result (List Edge) EdgeError
+abbrev pub answer_of : ReaderState → Result (List Edge) EdgeError
 answer_of (Ok scanner) = edges_at_end scanner
 answer_of (Err refusal) = Err refusal
 
 -- a reader by its parts
-abbrev pub reader_of : Option EdgeError → Scanner → Result Scanner EdgeError
+abbrev pub reader_of : Option EdgeError → Scanner → ReaderState
 reader_of None scanner = Ok scanner
 reader_of (Some refusal) scanner = Err refusal
 
@@ -115,7 +119,7 @@ left_by (Ok done) left = Ok left
 left_by (Err refusal) left = Err refusal
 
 -- the reader has read this text over n vertices, or memory ran out on the way
-pub record HasRead (n : ℕ) (text : List ℕ) (reader : Result Scanner EdgeError) : Type 0 where
+pub record HasRead (n : ℕ) (text : List ℕ) (reader : ReaderState) : Type 0 where
   pub state : IsUnlessMemory reader (after_bytes (Ok (start n)) text)
 
 -- a refusal is the expected one, where memory didn't run out, and where there's none, none is expected

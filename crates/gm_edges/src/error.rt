@@ -1,5 +1,8 @@
 //! Why a text is refused.
 
+ghost use Rattle.std.specs.Prelude.{◌≡◌};
+ghost use Rattle.gm_edges.specs.declared.error.EdgeError.TheVariants.{Memory};
+
 use thiserror::Error;
 
 /// Why a text is no edge list: the first refused line, counted from 1. The count stands still at 2^64 - 1.
@@ -17,4 +20,12 @@ pub enum EdgeError {
     /// There was no memory for the edges.
     #[error("out of memory")]
     Memory,
+}
+
+impl From<gm_base::Memory> for EdgeError {
+    ghost from_gives = { λ _ error. error ≡ Memory };
+
+    fn from(_error: gm_base::Memory) -> EdgeError {
+        EdgeError::Memory
+    }
 }

@@ -3,6 +3,7 @@
 
 mod error;
 mod examples;
+mod laws;
 mod line;
 mod reader;
 mod scanner;
@@ -12,6 +13,7 @@ pub use examples::{
     bad_lines, list_with_comment_and_tabs, lists_without_edges, no_vertices, too_many_edges,
     unusual_lists,
 };
+pub use laws::no_list_wants_memory;
 pub use reader::EdgeReader;
 
 #[cfg(test)]

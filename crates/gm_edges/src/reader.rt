@@ -1,9 +1,9 @@
 //! The reader of edge lists.
 
 ghost use Rattle.std.specs.Prelude.{◌≡◌, ◌≤◌, ◌^◌, ℕ, List, [], ◌++◌, length, Ok, Err, IfOk, IfErr, MatchResult, IsOk};
-ghost use Rattle.gm_base.specs.Graph.{IsGraph};
+ghost use Rattle.gm_base.specs.Graph.{most_edges, IsGraph};
 ghost use Rattle.gm_edges.specs.EdgeText.{edge_list_of, ended_edges_of};
-ghost use Rattle.gm_edges.specs.Scanner.{HasRead, IsRefusedAs, IsUnlessMemory, after_bytes, answer_of};
+ghost use Rattle.gm_edges.specs.Scanner.{HasRead, IsRefusedAs, IsUnlessMemory};
 
 use crate::EdgeError;
 use crate::scanner::Scanner;
@@ -20,12 +20,9 @@ pub struct EdgeReader {
 }
 
 impl Model for EdgeReader {
-    ghost use Rattle.std.specs.Prelude.{Result};
-    ghost use Rattle.gm_edges.specs.declared.error.EdgeError.{EdgeError};
-    ghost use Rattle.gm_edges.specs.declared.scanner.Scanner.{Scanner};
-    ghost use Rattle.gm_edges.specs.Scanner.{reader_of};
+    ghost use Rattle.gm_edges.specs.Scanner.{ReaderState, reader_of};
 
-    ghost Value = { Result Scanner EdgeError };
+    ghost Value = { ReaderState };
 
     ghost view = { λ a. reader_of a.refusal a.scanner };
 }
@@ -35,28 +32,13 @@ impl EdgeReader {
     pub fn new(alloc: Global, n: u32) -> EdgeReader
         requires some_vertex { 1 ≤ n }
         requires vertices { n ≤ 2 ^ 20 }
-        ensures { HasRead n [] result }
+        ensures nothing { HasRead n [] result }
+        ensures fresh { IsOk result }
     {
         EdgeReader {
             refusal: None,
             scanner: Scanner::new(alloc, n),
         }
-    }
-
-    /// Reads on, where it isn't refused.
-    fn advance(&mut self, piece: &[u8]) -> Result<(), EdgeError>
-        ensures steps { IsUnlessMemory self.new (after_bytes self.old piece.now) }
-        ensures answer { MatchResult result (λ _. IsOk self.new) (λ refusal. self.new ≡ Err refusal) }
-        ensures stays { IfErr self.old (λ refusal. self.new ≡ Err refusal) }
-    {
-        if let Some(refusal) = self.refusal {
-            return Err(refusal);
-        }
-        let result = self.scanner.read(piece);
-        if let Err(refusal) = result {
-            self.refusal = Some(refusal);
-        }
-        result
     }
 
     /// Reads the next piece of the text. It is refused exactly where a line that has ended by then is refused, with the refusal of the
@@ -70,26 +52,26 @@ impl EdgeReader {
         ensures answer { MatchResult result (λ _. IsOk self.new) (λ refusal. self.new ≡ Err refusal) }
         ensures stays { IfErr self.old (λ refusal. (self.new ≡ Err refusal) × (result ≡ Err refusal)) }
     {
-        self.advance(piece)
-    }
-
-    fn answer(self) -> Result<Edges, EdgeError>
-        ensures answer { IsUnlessMemory result (answer_of self) }
-        ensures stays { IfErr self (λ refusal. result ≡ Err refusal) }
-    {
-        match self.refusal {
-            Some(refusal) => Err(refusal),
-            None => self.scanner.finish(),
+        if let Some(refusal) = self.refusal {
+            return Err(refusal);
         }
+        let result = self.scanner.read(piece);
+        if let Err(refusal) = result {
+            self.refusal = Some(refusal);
+        }
+        result
     }
 
     /// The list of edges of the whole text, or its first refusal. Memory may run out at the last line.
     pub fn finish(self) -> Result<Edges, EdgeError>
         ensures answer { (n : ℕ) (text : List ℕ) → HasRead n text self → IsUnlessMemory result (edge_list_of text n) }
         ensures graph { (n : ℕ) (text : List ℕ) → HasRead n text self → IfOk result (IsGraph n) }
-        ensures few { (n : ℕ) (text : List ℕ) → HasRead n text self → IfOk result (λ edges. length edges ≤ 2 ^ 24) }
+        ensures few { (n : ℕ) (text : List ℕ) → HasRead n text self → IfOk result (λ edges. length edges ≤ most_edges) }
         ensures stays { IfErr self (λ refusal. result ≡ Err refusal) }
     {
-        self.answer()
+        match self.refusal {
+            Some(refusal) => Err(refusal),
+            None => self.scanner.finish(),
+        }
     }
 }

@@ -6,11 +6,8 @@ ghost use Rattle.gm_edges.specs.Scanner.{IsUnlessMemory, left_by, start, edges_a
 
 use crate::EdgeError;
 use crate::line::{Line, Meaning, Place};
-use gm_base::{Edge, Edges};
+use gm_base::{Edge, Edges, MOST_EDGES};
 use std::alloc::Global;
-
-/// The greatest number of edges, 2^24.
-pub(crate) const MOST_EDGES: usize = 16_777_216;
 
 /// What is known of a text so far.
 #[derive(Drop)]
@@ -37,7 +34,7 @@ fn add_line(n: u32, number: u64, edges: &mut Edges, meaning: Meaning) -> Result<
     if from >= u64::from(n) || to >= u64::from(n) {
         return Err(EdgeError::NoVertex { line: number });
     }
-    if edges.as_slice().len() >= MOST_EDGES {
+    if edges.as_slice().len() as u64 >= MOST_EDGES {
         return Err(EdgeError::TooManyEdges { line: number });
     }
     let edge = Edge {
@@ -45,10 +42,8 @@ fn add_line(n: u32, number: u64, edges: &mut Edges, meaning: Meaning) -> Result<
         to: to as u32,
         weight,
     };
-    match edges.push(edge) {
-        Ok(()) => Ok(()),
-        Err(_) => Err(EdgeError::Memory),
-    }
+    edges.push(edge)?;
+    Ok(())
 }
 
 impl Scanner {
@@ -71,10 +66,7 @@ impl Scanner {
         let mut line = self.line;
         for &byte in piece {
             if byte == b'\n' {
-                let added = add_line(self.n, self.number, &mut self.edges, line.meaning());
-                if let Err(refusal) = added {
-                    return Err(refusal);
-                }
+                add_line(self.n, self.number, &mut self.edges, line.meaning())?;
                 self.number = self.number.saturating_add(1);
                 line = Line::at(Place::First);
             } else {

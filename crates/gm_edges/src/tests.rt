@@ -13,12 +13,8 @@ fn read_in_two(alloc: Global, front: &[u8], back: &[u8]) -> Result<Edges, EdgeEr
     ensures { IsUnlessMemory result (edge_list_of (front.now ++ back.now) 4) }
 {
     let mut reader = EdgeReader::new(alloc, 4);
-    if let Err(refusal) = reader.feed(front) {
-        return Err(refusal);
-    }
-    if let Err(refusal) = reader.feed(back) {
-        return Err(refusal);
-    }
+    reader.feed(front)?;
+    reader.feed(back)?;
     reader.finish()
 }
 

@@ -11,14 +11,14 @@ use Rattle.std.proofs.lemmas.Slice.Eq.{bytes_eq-Decides}
 use Rattle.byteorder.specs.Endian.{little_bytes, little_number}
 use Rattle.byteorder.specs.Numbers.{little_number-reads_back, little_from-lt}
 use Rattle.gm_base.specs.declared.edge.Edge.{Edge}
-use Rattle.gm_base.specs.Dimensions.{Dimensions, AreDimensions}
+use Rattle.gm_base.specs.Dimensions.{Dimensions, AreDimensions, are_dimensions}
 use Rattle.gm_base.specs.Graph.{HasEndsBelow, IsGraph}
 use Rattle.gm_grid.specs.declared.error.GridError.{GridError}
 use Rattle.gm_grid.specs.declared.error.GridError.TheVariants.{BadEdge}
 use Rattle.gm_grid.specs.declared.error.ReadError.{ReadError}
 use Rattle.gm_grid.specs.declared.error.ReadError.TheVariants.{Grid, Memory}
 use Rattle.gm_grid.specs.Format.{magic, head_bytes, index_bytes, edge_bytes, edges_of_grid, grid_bytes, dimensions, is_in_block, FitsBlock, most_edges, IsGrid}
-use Rattle.gm_grid.specs.Refusals.{vertices_in, parts_in, are_dimensions, head_refusal, counts_in, edge_in, edges_in, blocks_of, placed_edges, is_misplaced, edges_refusal, shape_in, index_bytes_in, edge_bytes_in, grid_refusal, refusal_in}
+use Rattle.gm_grid.specs.Refusals.{vertices_in, parts_in, head_refusal, counts_in, edge_in, edges_in, blocks_of, placed_edges, is_misplaced, edges_refusal, shape_in, index_bytes_in, edge_bytes_in, grid_refusal, refusal_in}
 use Rattle.gm_grid.proofs.Bytes.{AreBytes, AreBytes-take, AreBytes-drop, whole_number, edge_bytes-edge_in, head_bytes-fields}
 use Rattle.gm_grid.proofs.Chunks.{length-first_chunks, written_again, read_again, length-written}
 use Rattle.gm_grid.proofs.Blocks.{blocks_of-edges_of_grid, sum-lengths, length-blocks_of, edges_of_grid-blocks_of, lengths-blocks_of, All-blocks_of, All-edges_of_grid, none_misplaced, all_placed, option_or_none}

@@ -1,16 +1,13 @@
 -- The first misplaced edge, block by block.
-use Rattle.std.proofs.Common.{◌≡◌, ℕ, suc, ◌+◌, ◌-◌, ◌≤◌, Bool, true, false, cond, not, List, [], ◌∷◌, ◌++◌, length, map, take, drop, sum, Option, Some, None, Vec, refl, sym, ap, ◌∙◌, arith}
+use Rattle.std.proofs.Common.{◌≡◌, ℕ, suc, ◌+◌, ◌-◌, ◌≤◌, Bool, true, false, cond, not, List, [], ◌∷◌, ◌++◌, length, map, take, drop, sum, Option, Some, None, refl, sym, ap, ◌∙◌, arith}
 use Rattle.std.specs.List.{position_from}
 use Rattle.std.specs.Option.{option_or}
-use Rattle.std.proofs.lemmas.List.{take-append-drop, length-append, length-take-le, append_assoc}
+use Rattle.std.proofs.lemmas.List.{take-append-drop, length-append, length-take-le}
 use Rattle.std.proofs.lemmas.List.Sums.{sum_by-cons}
-use Rattle.std.proofs.lemmas.Option.{none-some}
-use Rattle.std.specs.declared.alloc.Global.{Global}
 use Rattle.gm_base.specs.declared.edge.Edge.{Edge}
 use Rattle.gm_base.specs.Dimensions.{Dimensions}
 use Rattle.gm_grid.specs.Format.{is_in_block}
 use Rattle.gm_grid.specs.Refusals.{blocks_of, placed_edges, is_misplaced}
-use Rattle.gm_grid.specs.Room.{HasRoomFor, Takes}
 
 -- the first place in the front, or else in what follows it
 pub position_from-append : {X : Type 0} (p : X → Bool) (i : ℕ) (xs ys : List X)
@@ -49,26 +46,16 @@ search_more d block i count counts edges =
     ∙ ap (λ o. option_or o (position_from (is_misplaced d) (i + length {A = ℕ × Edge} (map (λ e. (block, e)) here)) after)) (position_from-placed d block i here)
     ∙ ap (λ (k : ℕ). option_or (position_from (λ e. not (is_in_block d block e)) i here) (position_from (is_misplaced d) (i + k) after)) (length-placed block here)
 
--- What is left of the counts and of the edges is looked through and taken as all of it is.
-pub record Looks (d : Dimensions) (block : ℕ) (counts all_counts : List ℕ) (edges all_edges : List Edge) (room first_room : Option (Vec Edge Global)) : Type 0 where
+-- What is left of the counts and of the edges is looked through as all of it is.
+pub record Looks (d : Dimensions) (block : ℕ) (counts all_counts : List ℕ) (edges all_edges : List Edge) : Type 0 where
   pub place : position_from (is_misplaced d) (length all_edges - length edges) (placed_edges block (blocks_of counts edges))
       ≡ position_from (is_misplaced d) 0 (placed_edges 0 (blocks_of all_counts all_edges))
   pub whole : sum counts ≡ length edges
   pub short : length edges ≤ length all_edges
-  pub room_left : HasRoomFor (length edges) room
-  pub taken : (last : Option (Vec Edge Global)) → Takes edges room last → Takes all_edges first_room last
-
--- what is added first and what is added then
-Takes-append : (xs ys : List Edge) (a b c : Option (Vec Edge Global)) → Takes xs a b → Takes ys b c → Takes (xs ++ ys) a c
-Takes-append xs ys None None c p q = q
-Takes-append xs ys None (Some v) c p q = absurd (none-some v (sym p))
-Takes-append xs ys (Some u) None c p q = absurd p
-Takes-append xs ys (Some u) (Some v) None p q = absurd q
-Takes-append xs ys (Some u) (Some v) (Some w) p q = q ∙ ap (λ zs. zs ++ ys) p ∙ append_assoc u.items xs ys
 
 module _ (d : Dimensions) (block count : ℕ) (left counts all_counts : List ℕ) (edges here after all_edges : List Edge)
-    (room next first_room : Option (Vec Edge Global)) (first : ℕ) (found : Option ℕ)
-    (looks : Looks d block left all_counts edges all_edges room first_room)
+    (first : ℕ) (found : Option ℕ)
+    (looks : Looks d block left all_counts edges all_edges)
     (is_left : left ≡ count ∷ counts) (is_here : here ≡ take count edges) (is_after : after ≡ drop count edges)
     (is_first : first ≡ length all_edges - length edges)
     (is_found : found ≡ position_from (λ e. not (is_in_block d block e)) first here) where
@@ -86,9 +73,8 @@ module _ (d : Dimensions) (block count : ℕ) (left counts all_counts : List ℕ
   found_in_block place is =
       sym (whole_search ∙ ap (λ o. option_or o (position_from (is_misplaced d) (first + length here) (placed_edges (block + 1) (blocks_of counts after)))) is)
 
-  pub looks_on : found ≡ None → Takes here room next → ((more : ℕ) → HasRoomFor (length here + more) room → HasRoomFor more next)
-      → Looks d (block + 1) counts all_counts after all_edges next first_room
-  looks_on none takes keeps_room =
+  pub looks_on : found ≡ None → Looks d (block + 1) counts all_counts after all_edges
+  looks_on none =
       let total : count + sum counts ≡ length edges = sym (sum_by-cons (λ x. x) count counts) ∙ ap sum (sym is_left) ∙ looks.whole in
       let joined : here ++ after ≡ edges = cc (is_here, is_after, take-append-drop count edges) in
       let lengths : length here + length after ≡ length edges = sym (length-append here after) ∙ ap length joined in
@@ -98,6 +84,4 @@ module _ (d : Dimensions) (block count : ℕ) (left counts all_counts : List ℕ
             ∙ ap (λ k. position_from (is_misplaced d) k (placed_edges (block + 1) (blocks_of counts after))) (omega (arith, looks.short)));
         whole = omega arith;
         short = omega (arith, looks.short);
-        room_left = keeps_room (length after) (rw lengths looks.room_left);
-        taken = λ last q. looks.taken last (rw (← joined) (Takes-append here after room next last takes q));
       }

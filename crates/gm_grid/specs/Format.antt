@@ -3,6 +3,7 @@ use Rattle.std.specs.Prelude.{◌≡◌, ℕ, ◌*◌, ◌^◌, ◌<◌, ◌≤�
 use Rattle.byteorder.specs.Endian.{little_bytes}
 use Rattle.gm_base.specs.declared.edge.Edge.{Edge}
 use Rattle.gm_base.specs.Dimensions.{Dimensions, AreDimensions, block_of}
+pub use Rattle.gm_base.specs.Graph.{most_edges}
 
 -- what a grid's file begins with
 abbrev pub magic : List ℕ
@@ -41,10 +42,6 @@ is_in_block d block e = nat_lt e.from d.n && nat_lt e.to d.n && (block_of d e ==
 pub record FitsBlock (d : Dimensions) (block : ℕ) (e : Edge) : Type 0 where
   pub place : IsTrue (is_in_block d block e)
   pub weight : e.weight < 2 ^ 32
-
--- the greatest number of edges
-abbrev pub most_edges : ℕ
-most_edges = 2 ^ 24
 
 -- the bytes are the file of the grid with so many vertices and ranges and these blocks
 pub record IsGrid (bytes : List ℕ) (n parts : ℕ) (blocks : List (List Edge)) : Type 0 where

@@ -1,5 +1,4 @@
 pub mod Format
 pub mod Refusals
 pub mod Ranges
-pub mod Room
 pub mod Examples

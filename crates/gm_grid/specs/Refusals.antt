@@ -1,11 +1,11 @@
 -- Which bytes are refused as a grid, and for what: the first that applies in the order of `grid_refusal`.
-use Rattle.std.specs.Prelude.{ℕ, ◌+◌, ◌*◌, ◌/◌, ◌^◌, Bool, ◌&&◌, ◌==◌, not, nat_lt, nat_le, if◌then◌else◌, List, [], ◌∷◌, ◌++◌, length, take, drop, map, sum, bytes_eq, Option, Some, None, option_map, Result, Ok, Err}
+use Rattle.std.specs.Prelude.{ℕ, ◌+◌, ◌*◌, ◌/◌, Bool, ◌==◌, not, nat_lt, if◌then◌else◌, List, [], ◌∷◌, ◌++◌, length, take, drop, map, sum, bytes_eq, Option, Some, None, option_map, Result, Ok, Err}
 use Rattle.std.specs.List.{position_from}
 use Rattle.std.specs.Option.{option_or}
 use Rattle.std.specs.Simd.{first_chunks}
 use Rattle.byteorder.specs.Endian.{little_number}
 use Rattle.gm_base.specs.declared.edge.Edge.{Edge}
-use Rattle.gm_base.specs.Dimensions.{Dimensions}
+use Rattle.gm_base.specs.Dimensions.{Dimensions, are_dimensions}
 use Rattle.gm_base.specs.Graph.{edge}
 use Rattle.gm_grid.specs.declared.error.GridError.{GridError}
 use Rattle.gm_grid.specs.declared.error.GridError.TheVariants.{BadMagic, BadShape, TooManyEdges, BadSize, BadEdge}
@@ -19,10 +19,6 @@ vertices_in head = little_number 4 (drop 8 head)
 
 abbrev pub parts_in : List ℕ → ℕ
 parts_in head = little_number 4 (drop 12 head)
-
--- 1 to 2^20 vertices, 1 to 64 ranges, and no more ranges than vertices
-abbrev pub are_dimensions : ℕ → ℕ → Bool
-are_dimensions n parts = nat_le 1 n && nat_le n (2 ^ 20) && nat_le 1 parts && nat_le parts 64 && nat_le parts n
 
 -- why these 16 bytes are no head
 unfoldable pub head_refusal : List ℕ → Option GridError

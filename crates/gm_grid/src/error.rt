@@ -1,8 +1,12 @@
 //! Why bytes are no grid.
 
+ghost use Rattle.std.specs.Prelude.{◌≡◌};
+ghost use Rattle.gm_grid.specs.declared.error.ReadError.TheVariants.{Grid};
+
 use thiserror::Error;
 
-/// Why bytes are no grid. Where several apply it is the first in the order of `grid_refusal`.
+/// Why bytes are no grid. Where several apply it is the first in this order: too short for a head, magic, shape, too short for
+/// the index, too many edges, size, first bad edge.
 #[derive(Clone, Copy, Debug, PartialEq, Eq, Error)]
 pub enum GridError {
     /// The first 8 bytes aren't `GGRID001`.
@@ -42,4 +46,12 @@ pub enum ReadError {
     /// There was no memory for its edges.
     #[error("out of memory")]
     Memory,
+}
+
+impl From<GridError> for ReadError {
+    ghost from_gives = { λ error read. read ≡ Grid error };
+
+    fn from(error: GridError) -> ReadError {
+        ReadError::Grid(error)
+    }
 }

@@ -1,22 +1,21 @@
 //! A grid's file, read whole.
 #![tactic(auto, unfolding(crate::specs::Refusals::grid_refusal, crate::specs::Refusals::edges_refusal))]
 
-ghost use Rattle.std.specs.Prelude.{◌≡◌, ◌+◌, ◌*◌, ◌≤◌, ◌<◌, ◌^◌, ◌↔◌, ◌++◌, ℕ, List, length, map, sum, not, IfOk, IfNone, IfSome, IsSomeAnd, MatchOption, Some, vec_len, vec_capacity, option_map, Err};
+ghost use Rattle.std.specs.Prelude.{◌≡◌, ◌+◌, ◌*◌, ◌≤◌, ◌<◌, ◌^◌, ◌↔◌, List, length, map, sum, not, IfOk, Some, option_map, Err};
 ghost use Rattle.std.specs.List.{position_from};
 ghost use Rattle.byteorder.specs.Endian.{little_number};
 ghost use Rattle.std.specs.Option.{option_or};
 ghost use Rattle.gm_grid.specs.Refusals.{edge_in, edges_in, blocks_of, placed_edges, is_misplaced, refusal_in, index_refusal, edges_refusal, grid_refusal, shape_in, edge_bytes_in};
 ghost use Rattle.gm_grid.specs.Ranges.{is_within};
-ghost use Rattle.gm_grid.specs.Room.{HasRoomFor, Takes};
 ghost use Rattle.gm_grid.specs.Format.{most_edges, is_in_block, edges_of_grid, IsGrid};
 ghost use Rattle.gm_base.specs.Graph.{IsGraph};
 
 use crate::block::BlockRanges;
 use crate::edge::read_edge;
-use crate::index::{MOST_EDGES, edges_in_all, index_size};
+use crate::index::{edges_in_all, index_size};
 use crate::{GridError, ReadError, read_head};
 use byteorder::{ByteOrder, LittleEndian};
-use gm_base::{Edge, Edges, Shape};
+use gm_base::{Edge, Edges, MOST_EDGES, Shape};
 use std::alloc::Global;
 
 /// A graph that was read from a grid's file: its shape, and its edges block by block.
@@ -39,74 +38,29 @@ fn first_outside(ranges: &BlockRanges, first: usize, bytes: &[[u8; 12]]) -> Opti
     None
 }
 
-/// The same, and the edges before it are added to the list, which has room for them.
-fn take_within(
-    ranges: &BlockRanges,
-    first: usize,
-    bytes: &[[u8; 12]],
-    edges: &mut Vec<Edge>,
-) -> Option<usize>
-    requires places { first + length bytes.now < 2 ^ 64 }
-    requires room { vec_len edges.old + length bytes.now ≤ vec_capacity edges.old }
-    ensures place { result ≡ position_from (λ e. not (is_within ranges.now e)) first (map edge_in bytes.now) }
-    ensures taken { IfNone result (edges.new.items ≡ edges.old.items ++ map edge_in bytes.now) }
-    ensures room { vec_capacity edges.old ≤ vec_capacity edges.new }
-{
-    for (place, edge_bytes) in bytes.iter().enumerate() {
-        let edge = read_edge(edge_bytes);
-        if !ranges.contains(&edge) {
-            return Some(first + place);
-        }
-        edges.push(edge).unwrap();
-    }
-    None
-}
-
-/// The number in the file of the first of these edges that isn't in the block. Where there is none, they have been added to
-/// the list, if there is one.
-fn take_block(
-    shape: &Shape,
-    block: u32,
-    first: usize,
-    bytes: &[[u8; 12]],
-    room: &mut Option<Vec<Edge>>,
-) -> Option<usize>
+/// The number in the file of the first of these edges that isn't in the block.
+fn first_outside_block(shape: &Shape, block: u32, first: usize, bytes: &[[u8; 12]]) -> Option<usize>
     requires block { block < shape.now.parts * shape.now.parts }
     requires places { first + length bytes.now < 2 ^ 64 }
-    requires room { HasRoomFor (length bytes.now) room.old }
-    ensures place { result ≡ position_from (λ e. not (is_in_block shape.now block e)) first (map edge_in bytes.now) }
-    ensures taken { IfNone result (Takes (map edge_in bytes.now) room.old room.new) }
-    ensures room { IfNone result ((more : ℕ) → HasRoomFor (length bytes.now + more) room.old → HasRoomFor more room.new) }
+    ensures { result ≡ position_from (λ e. not (is_in_block shape.now block e)) first (map edge_in bytes.now) }
 {
-    let ranges = BlockRanges::of(shape, block);
-    match room {
-        Some(edges) => take_within(&ranges, first, bytes, edges),
-        None => first_outside(&ranges, first, bytes),
-    }
+    first_outside(&BlockRanges::of(shape, block), first, bytes)
 }
 
-/// The number in the file of the first edge that isn't in its block. Where there is none, the edges have been added to the
-/// list, if there is one: it has room for them.
-fn take_blocks(
-    shape: &Shape,
-    counts: &[[u8; 8]],
-    bytes: &[[u8; 12]],
-    room: &mut Option<Vec<Edge>>,
-) -> Option<usize>
+/// The number in the file of the first edge that isn't in its block.
+fn first_misplaced(shape: &Shape, counts: &[[u8; 8]], bytes: &[[u8; 12]]) -> Option<usize>
     requires blocks { length counts.now ≡ shape.now.parts * shape.now.parts }
     requires few_blocks { length counts.now ≤ 4096 }
     requires whole { sum (map (little_number 8) counts.now) ≡ length bytes.now }
     requires few { length bytes.now ≤ most_edges }
-    requires room { HasRoomFor (length bytes.now) room.old }
-    ensures place { result ≡ position_from (is_misplaced shape.now) 0
+    ensures { result ≡ position_from (is_misplaced shape.now) 0
         (placed_edges 0 (blocks_of (map (little_number 8) counts.now) (map edge_in bytes.now))) }
-    ensures taken { IfNone result (Takes (map edge_in bytes.now) room.old room.new) }
 {
     let mut rest = bytes;
     for (block, count) in counts.iter().enumerate() {
         let first = bytes.len() - rest.len();
         let (here, after) = rest.split_at(LittleEndian::read_u64(count) as usize);
-        if let Some(place) = take_block(shape, block as u32, first, here, room) {
+        if let Some(place) = first_outside_block(shape, block as u32, first, here) {
             return Some(place);
         }
         rest = after;
@@ -130,16 +84,16 @@ fn read_edges(
         (placed_edges 0 (blocks_of (map (little_number 8) counts.now) (map edge_in bytes.now)))) }
     ensures edges { IfOk result (λ edges. edges ≡ map edge_in bytes.now) }
 {
-    let mut room = Vec::with_capacity(alloc, bytes.len()).ok();
-    if let Some(index) = take_blocks(shape, counts, bytes, &mut room) {
-        return Err(ReadError::Grid(GridError::BadEdge {
+    if let Some(index) = first_misplaced(shape, counts, bytes) {
+        return Err(GridError::BadEdge {
             index: index as u64,
-        }));
+        }
+        .into());
     }
-    match room {
-        Some(edges) => Ok(Edges::from_vec(edges)),
-        None => Err(ReadError::Memory),
-    }
+    let Ok(edges) = bytes.iter().map(read_edge).collect::<Vec<Edge>>(alloc) else {
+        return Err(ReadError::Memory);
+    };
+    Ok(Edges::from_vec(edges))
 }
 
 /// The edges behind a head of this shape and the index of these numbers.
@@ -158,13 +112,13 @@ fn read_body(
 {
     let edges = edges_in_all(counts);
     if edges > u128::from(MOST_EDGES) {
-        return Err(ReadError::Grid(GridError::TooManyEdges { edges }));
+        return Err(GridError::TooManyEdges { edges }.into());
     }
     let index_end = 16 + 8 * counts.len() as u64;
     let found = index_end + bytes.len() as u64;
     let expected = index_end + 12 * edges as u64;
     if found != expected {
-        return Err(ReadError::Grid(GridError::BadSize { found, expected }));
+        return Err(GridError::BadSize { found, expected }.into());
     }
     read_edges(alloc, shape, counts, bytes.as_chunks::<12>().0)
 }
@@ -176,28 +130,27 @@ fn read_file(alloc: Global, bytes: &[u8]) -> Result<(Shape, Edges), ReadError>
     ensures edges { IfOk result (λ grid. grid.1 ≡ edges_in (edge_bytes_in bytes.now)) }
 {
     let found = bytes.len() as u64;
-    let (head, rest) = match bytes.split_first_chunk::<16>() {
-        Some(parts) => parts,
-        None => return Err(ReadError::Grid(GridError::BadSize {
-            found,
-            expected: 16,
-        })),
-    };
-    let shape = read_head(head).map_err(ReadError::Grid)?;
+    let (head, rest) = bytes.split_first_chunk::<16>().ok_or(GridError::BadSize {
+        found,
+        expected: 16,
+    })?;
+    let shape = read_head(head)?;
     let size = index_size(&shape);
     if rest.len() < size {
-        return Err(ReadError::Grid(GridError::BadSize {
+        return Err(GridError::BadSize {
             found,
             expected: 16 + size as u64,
-        }));
+        }
+        .into());
     }
     let (index, rest) = rest.split_at(size);
     let edges = read_body(alloc, &shape, index.as_chunks::<8>().0, rest)?;
     Ok((shape, edges))
 }
 
-/// Reads a whole file. `Err(Grid(e))` exactly where the bytes are no grid, with the first refusal that applies in the order of
-/// `grid_refusal`. `Err(Memory)` comes only for a grid.
+/// Reads a whole file. `Err(Grid(e))` exactly where the bytes are no grid, with the first refusal that applies in this order: too
+/// short for a head, magic, shape, too short for the index, too many edges, size, first bad edge. `Err(Memory)` comes only for a
+/// grid.
 pub fn read_grid(alloc: Global, bytes: &[u8]) -> Result<Grid, ReadError>
     ensures ok { IfOk result (λ grid. (blocks : List (List Edge)) × IsGrid bytes.now grid.shape.n grid.shape.parts blocks
         × (grid.edges ≡ edges_of_grid blocks)) }

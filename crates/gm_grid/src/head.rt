@@ -26,10 +26,7 @@ pub fn read_head(bytes: &[u8; 16]) -> Result<Shape, GridError>
     }
     let n = LittleEndian::read_u32(&bytes[8..]);
     let parts = LittleEndian::read_u32(&bytes[12..]);
-    match Shape::new(n, parts) {
-        Some(shape) => Ok(shape),
-        None => Err(GridError::BadShape { n, parts }),
-    }
+    Shape::new(n, parts).ok_or(GridError::BadShape { n, parts })
 }
 
 /// Writes the first 16 bytes of the file of a grid of this shape.

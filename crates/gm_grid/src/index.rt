@@ -7,12 +7,9 @@ ghost use Rattle.gm_grid.specs.Refusals.{counts_in, index_refusal, file_size};
 
 use crate::{GridError, IndexError};
 use byteorder::{ByteOrder, LittleEndian};
-use gm_base::Shape;
+use gm_base::{MOST_EDGES, Shape};
 use std::alloc::Global;
 use std::marker::Model;
-
-/// The greatest number of edges, 2^24.
-pub const MOST_EDGES: u64 = 16_777_216;
 
 /// How many edges each block of a grid has, row by row: at most 2^24 in all. Contracts see the list of the numbers.
 #[derive(Drop)]
@@ -72,17 +69,17 @@ pub fn read_index(alloc: Global, shape: &Shape, bytes: &[u8]) -> Result<Index, I
     if edges > u128::from(MOST_EDGES) {
         return Err(IndexError::Grid(GridError::TooManyEdges { edges }));
     }
-    match numbers
+    let Ok(counts) = numbers
         .iter()
         .map(|number| LittleEndian::read_u64(number))
         .collect::<Vec<u64>>(alloc)
-    {
-        Ok(counts) => Ok(Index {
-            counts,
-            edges: edges as u64,
-        }),
-        Err(_) => Err(IndexError::Memory),
-    }
+    else {
+        return Err(IndexError::Memory);
+    };
+    Ok(Index {
+        counts,
+        edges: edges as u64,
+    })
 }
 
 impl Index {

@@ -1,5 +1,5 @@
--- The text of a job: of its lines, all but one mean nothing, and that one states the job.
-use Rattle.std.specs.Prelude.{ℕ, ◌+◌, nat_lt, nat_le, Bool, false, not, ◌&&◌, if◌then◌else◌, List, [], ◌∷◌, map, Option, Some, None, option_map, codes}
+-- The text of a job: at most 1,048,576 bytes. Of its lines, all but one mean nothing, and that one states the job.
+use Rattle.std.specs.Prelude.{ℕ, ◌+◌, nat_lt, nat_le, Bool, false, not, ◌&&◌, if◌then◌else◌, List, [], ◌∷◌, length, map, Option, Some, None, option_map, codes}
 use Rattle.std.specs.Option.{option_zip}
 use Rattle.std.specs.List.{filter}
 use Rattle.std.specs.Str.{bytes_eq}
@@ -7,11 +7,7 @@ use Rattle.gm_base.specs.declared.job.Spec.{Spec}
 use Rattle.gm_base.specs.declared.job.Spec.TheVariants.{Bfs, Sssp, Wcc, Rank}
 use Rattle.gm_base.specs.Names.{is_name}
 use Rattle.gm_base.specs.Texts.{lines_of, words_of, number_in, begins_comment}
-
--- a job of a job text
-pub record Job : Type 0 where
-  pub name : List ℕ
-  pub spec : Spec
+use Rattle.gm_jobs.specs.declared.job.Job.{Job}
 
 -- a number, where it fits
 abbrev pub where_fit : (ℕ → Bool) → Option ℕ → Option ℕ
@@ -80,6 +76,10 @@ job_of_statements n [] = None
 job_of_statements n (words ∷ []) = job_of_words n words
 job_of_statements n (words ∷ next ∷ more) = None
 
--- the job of a text over n vertices, where exactly one line means something
+-- how long a job text may be
+abbrev pub most_bytes : ℕ
+most_bytes = 1048576
+
+-- the job of a text over n vertices, where exactly one line means something; a longer text states no job, whatever its lines are
 abbrev pub job_of_text : ℕ → List ℕ → Option Job
-job_of_text n text = job_of_statements n (statements_of text)
+job_of_text n text = if nat_le (length text) most_bytes then job_of_statements n (statements_of text) else None

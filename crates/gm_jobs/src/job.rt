@@ -4,9 +4,12 @@ ghost use Rattle.std.specs.Prelude.{◌≡◌, ◌≤◌, ◌^◌, IfOk, IfSome,
 ghost use Rattle.gm_base.specs.Texts.{words_of};
 ghost use Rattle.gm_jobs.specs.JobText.{vertex_in, rounds_in, only_rounds, bound_of, source_and_bound, spec_of, job_of_words, job_of_text};
 
-use crate::text::{is_word, next_statement, next_word};
+use crate::text::{next_statement, next_word};
 use gm_base::{Memory, Name, NameError, Spec, number};
 use std::alloc::Global;
+
+/// The most bytes that a job text may have.
+pub const MOST_BYTES: usize = 1_048_576;
 
 /// A job of a job text.
 #[derive(Drop)]
@@ -35,7 +38,7 @@ fn rounds(word: &[u8]) -> Option<u32>
     ensures { result ≡ rounds_in word.now }
 {
     let rounds = number(word, u64::MAX)?;
-    if 1 <= rounds && rounds <= MOST_ROUNDS {
+    if (1..=MOST_ROUNDS).contains(&rounds) {
         Some(rounds as u32)
     } else {
         None
@@ -60,7 +63,7 @@ fn bound(line: &[u8], n: u32) -> Option<u32>
 {
     match next_word(line) {
         None => Some(n + 1),
-        Some((word, rest)) if is_word(word, b"rounds") => only_rounds(rest),
+        Some((b"rounds", rest)) => only_rounds(rest),
         Some(_) => None,
     }
 }
@@ -80,20 +83,24 @@ fn spec(line: &[u8], n: u32) -> Option<Spec>
     ensures { result ≡ spec_of n (words_of line.now) }
 {
     let (kind, rest) = next_word(line)?;
-    if is_word(kind, b"bfs") {
-        let (source, bound) = source_and_bound(rest, n)?;
-        Some(Spec::Bfs { source, bound })
-    } else if is_word(kind, b"sssp") {
-        let (source, bound) = source_and_bound(rest, n)?;
-        Some(Spec::Sssp { source, bound })
-    } else if is_word(kind, b"wcc") {
-        let bound = bound(rest, n)?;
-        Some(Spec::Wcc { bound })
-    } else if is_word(kind, b"rank") {
-        let rounds = only_rounds(rest)?;
-        Some(Spec::Rank { rounds })
-    } else {
-        None
+    match kind {
+        b"bfs" => {
+            let (source, bound) = source_and_bound(rest, n)?;
+            Some(Spec::Bfs { source, bound })
+        }
+        b"sssp" => {
+            let (source, bound) = source_and_bound(rest, n)?;
+            Some(Spec::Sssp { source, bound })
+        }
+        b"wcc" => {
+            let bound = bound(rest, n)?;
+            Some(Spec::Wcc { bound })
+        }
+        b"rank" => {
+            let rounds = only_rounds(rest)?;
+            Some(Spec::Rank { rounds })
+        }
+        _ => None,
     }
 }
 
@@ -101,14 +108,11 @@ fn spec(line: &[u8], n: u32) -> Option<Spec>
 fn job_in(alloc: Global, line: &[u8], n: u32) -> Result<Option<Job>, Memory>
     requires { n ≤ 2 ^ 20 }
     ensures none { IfOk result (λ job. IfNone job (job_of_words n (words_of line.now) ≡ None)) }
-    ensures some { IfOk result (λ job. IfSome job (λ it. job_of_words n (words_of line.now) ≡ Some (record { name = it.name; spec = it.spec }))) }
+    ensures some { IfOk result (λ job. IfSome job (λ it. job_of_words n (words_of line.now) ≡ Some it)) }
 {
-    let Some((word, rest)) = next_word(line) else {
+    let Some((b"job", rest)) = next_word(line) else {
         return Ok(None);
     };
-    if !is_word(word, b"job") {
-        return Ok(None);
-    }
     let Some((name, rest)) = next_word(rest) else {
         return Ok(None);
     };
@@ -122,15 +126,19 @@ fn job_in(alloc: Global, line: &[u8], n: u32) -> Result<Option<Job>, Memory>
     }
 }
 
-/// The job of a text over n vertices, 1 to 2^20. A text is taken exactly where one line alone means something and is
-/// `job NAME bfs S`, `job NAME sssp S` or `job NAME wcc`, each maybe with `rounds R` behind it, or `job NAME rank K`. NAME is 1 to
-/// 32 ASCII letters, digits, `_`, `-` and `.`, S is below n, and R and K are 1 to 1,000,000. Where no bound is stated it is
-/// n + 1. For every other text the answer is `None`. The only error is that there was no memory for the name.
+/// The job of a text over n vertices, 1 to 2^20. A text is taken exactly where it has at most [`MOST_BYTES`] bytes and one line
+/// alone means something and is `job NAME bfs S`, `job NAME sssp S` or `job NAME wcc`, each maybe with `rounds R` behind it, or
+/// `job NAME rank K`. NAME is 1 to 32 ASCII letters, digits, `_`, `-` and `.`, S is below n, and R and K are 1 to 1,000,000. Where
+/// no bound is stated it is n + 1. For every other text the answer is `None`, for a longer one before any line is looked at. The
+/// error is `Memory` where there was no memory.
 pub fn read_job(alloc: Global, text: &[u8], n: u32) -> Result<Option<Job>, Memory>
     requires { (1 ≤ n) × (n ≤ 2 ^ 20) }
     ensures none { IfOk result (λ job. IfNone job (job_of_text n text.now ≡ None)) }
-    ensures some { IfOk result (λ job. IfSome job (λ it. job_of_text n text.now ≡ Some (record { name = it.name; spec = it.spec }))) }
+    ensures some { IfOk result (λ job. IfSome job (λ it. job_of_text n text.now ≡ Some it)) }
 {
+    if text.len() > MOST_BYTES {
+        return Ok(None);
+    }
     let Some((line, rest)) = next_statement(text) else {
         return Ok(None);
     };

@@ -3,6 +3,7 @@
 
 mod examples;
 mod job;
+mod laws;
 #[cfg(test)]
 mod tests;
 mod text;
@@ -10,4 +11,5 @@ mod text;
 pub use examples::{
     jobs_of_each_kind, jobs_with_bounds, texts_in_unusual_form, texts_that_state_no_job,
 };
-pub use job::{Job, read_job};
+pub use job::{Job, MOST_BYTES, read_job};
+pub use laws::long_text_states_no_job;

@@ -1,6 +1,6 @@
 //! Texts that are read with ample memory. The expected jobs were worked out by hand from the form of a job text.
 
-use crate::read_job;
+use crate::{MOST_BYTES, read_job};
 use gm_base::Spec;
 use std::test::Fail;
 
@@ -71,5 +71,23 @@ fn takes_no_other_text(rt: HostRuntime) -> Result<(), Fail> {
         let answer = read_job(rt.alloc(), text, 4)?;
         assert!(rt; answer.is_none(), "{text:?}");
     }
+    Ok(())
+}
+
+/// A job line, and a comment that makes the text as long as a job text may be, and one byte longer.
+#[test]
+fn takes_no_longer_text(rt: HostRuntime) -> Result<(), Fail> {
+    let mut text = Vec::from_slice(rt.alloc(), b"job a wcc\n#")?;
+    text.resize(MOST_BYTES, b'x')?;
+    assert_eq!(rt; text.len(), 1_048_576);
+    assert!(rt;
+        read_job(rt.alloc(), &text, 4)?.is_some(),
+        "a text of 1,048,576 bytes"
+    );
+    text.push(b'x')?;
+    assert!(rt;
+        read_job(rt.alloc(), &text, 4)?.is_none(),
+        "a text of 1,048,577 bytes"
+    );
     Ok(())
 }

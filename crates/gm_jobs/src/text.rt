@@ -2,7 +2,6 @@
 
 ghost use Rattle.std.specs.Prelude.{◌≡◌, ◌<◌, ◌≤◌, [], ◌∷◌, length, not, MatchOption};
 ghost use Rattle.std.specs.List.{position, position_or_len};
-ghost use Rattle.std.specs.Str.{bytes_eq};
 ghost use Rattle.gm_base.specs.Texts.{is_line_end, is_blank, lines_of, words_of, begins_comment};
 ghost use Rattle.gm_jobs.specs.JobText.{means_something, statements_of};
 
@@ -58,17 +57,14 @@ fn next_line(text: &[u8]) -> (&[u8], &[u8])
 pub(crate) fn next_word(line: &[u8]) -> Option<(&[u8], &[u8])>
     ensures { MatchOption result (words_of line.now ≡ []) (λ word. words_of line.now ≡ word.0.now ∷ words_of word.1.now) }
 {
-    let Some(start) = word_start(line) else {
-        return None;
-    };
-    let word = line.split_at(start).1;
+    let (_, word) = line.split_at(word_start(line)?);
     Some(word.split_at(word_length(word)))
 }
 
 fn begins_comment(word: &[u8]) -> bool
     ensures { result ≡ begins_comment word.now }
 {
-    !word.is_empty() && word[0] == b'#'
+    word.first() == Some(&b'#')
 }
 
 /// Whether a line has a word, and its first one doesn't begin with `#`.
@@ -94,11 +90,4 @@ pub(crate) fn next_statement(text: &[u8]) -> Option<(&[u8], &[u8])>
         rest = more;
     }
     None
-}
-
-/// Whether the word is this text.
-pub(crate) fn is_word(word: &[u8], text: &[u8]) -> bool
-    ensures { result ≡ bytes_eq word.now text.now }
-{
-    word == text
 }

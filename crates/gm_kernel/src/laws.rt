@@ -4,7 +4,7 @@ ghost use Rattle.std.specs.Prelude.{◌≡◌, ℕ, ◌<◌, ◌≤◌, Bool, fa
 ghost use Rattle.gm_base.specs.declared.edge.Edge.{Edge};
 ghost use Rattle.gm_base.specs.Graph.{IsSameGraph, out_degree};
 ghost use Rattle.gm_base.specs.Kernels.{Kernel as Functions, top};
-ghost use Rattle.gm_base.specs.Runs.{joined_at, round_of, value_after_round};
+ghost use Rattle.gm_base.specs.Runs.{joined_at, round_of, value_after_round, values_after};
 ghost use Rattle.gm_kernel.specs.Laws.{active_at, IsQuiet, GivesTheSame};
 
 use crate::Kernel;
@@ -56,4 +56,10 @@ pub fn sums_are_the_round()
         → ((v : ℕ) → v < length values → slice_index sums v
         ≡ joined_at kernel degree_of values edges v (kernel.carried_value (slice_index values v)))
         → sums ≡ round_of kernel edges values }
+{}
+
+/// A law: there are as many values after a round as before it, and one for each vertex after any number of rounds.
+pub fn rounds_keep_the_length()
+    ensures round { (kernel : Functions) (edges : List Edge) (values : List ℕ) → length (round_of kernel edges values) ≡ length values }
+    ensures rounds { (kernel : Functions) (n : ℕ) (edges : List Edge) (rounds : ℕ) → length (values_after kernel n edges rounds) ≡ n }
 {}

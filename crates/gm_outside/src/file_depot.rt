@@ -4,7 +4,7 @@ ghost use Rattle.gm_outside.specs.Causes.{Rose};
 
 use crate::traits::{Depot, Trouble};
 use crate::writing::write_piece;
-use std::fs::{File, Metadata, OpenFile};
+use std::fs::File;
 use std::io::{ErrorKind, Read, Seek, SeekFrom};
 use std::rt::Files;
 use std::{fs, io};
@@ -36,7 +36,7 @@ impl<R: Files + Drop> FileDepot<R> {
     }
 
     /// Counts an error as a fault, unless it is want of memory.
-    fn trouble(&mut self, error: io::Error) -> Trouble
+    fn count_fault(&mut self, error: io::Error) -> Trouble
         ensures reads { self.new.reads ≡ self.old.reads }
         ensures write_faults { self.new.write_faults ≡ self.old.write_faults }
         ensures later { self.old.faults ≤ self.new.faults }
@@ -50,61 +50,55 @@ impl<R: Files + Drop> FileDepot<R> {
     }
 
     /// The same for an error of a call that writes.
-    fn write_trouble(&mut self, error: io::Error) -> Trouble
+    fn count_write_fault(&mut self, error: io::Error) -> Trouble
         ensures reads { self.new.reads ≡ self.old.reads }
         ensures later { self.old.faults ≤ self.new.faults }
         ensures write_later { self.old.write_faults ≤ self.new.write_faults }
         ensures failed { result ≡ Trouble.Failed → Rose self.old.faults self.new.faults }
         ensures write_failed { result ≡ Trouble.Failed → Rose self.old.write_faults self.new.write_faults }
     {
-        let trouble = self.trouble(error);
+        let trouble = self.count_fault(error);
         if trouble == Trouble::Failed {
             self.write_faults = self.write_faults.saturating_add(1);
         }
         trouble
     }
 
+    /// The length of a regular file, or `None` where there is nothing of this name. It opens nothing, and
+    /// is asked before each opening, since opening a pipe may wait without end.
     fn file_size(&self, name: &str) -> io::Result<Option<u64>> {
         match fs::metadata(&self.rt, name) {
-            Ok(metadata) => {
-                require_file(&metadata)?;
-                Ok(Some(metadata.len()))
-            }
+            Ok(metadata) if metadata.is_file() => Ok(Some(metadata.len())),
+            Ok(_) => Err(io::Error::from(ErrorKind::InvalidInput)),
             Err(error) if error.kind() == ErrorKind::NotFound => Ok(None),
             Err(error) => Err(error),
         }
     }
 
     fn read_range(&self, name: &str, pos: u64, into: &mut [u8]) -> io::Result<()> {
-        let mut file = File::open(&self.rt, name)?;
-        let metadata = file.metadata()?;
-        require_file(&metadata)?;
-        if metadata.len() < pos || metadata.len() - pos < into.len() as u64 {
+        let Some(size) = self.file_size(name)? else {
+            return Err(io::Error::from(ErrorKind::NotFound));
+        };
+        if size < pos || size - pos < into.len() as u64 {
             return Err(io::Error::from(ErrorKind::UnexpectedEof));
         }
+        let mut file = File::open(&self.rt, name)?;
         file.seek(SeekFrom::Start(pos))?;
         file.read_exact(into)
     }
 
     fn create_file(&self, name: &str) -> io::Result<()> {
-        let file = File::create(&self.rt, name)?;
-        require_file(&file.metadata()?)
+        self.file_size(name)?;
+        File::create(&self.rt, name)?;
+        Ok(())
     }
 
     fn append_bytes(&self, name: &str, bytes: &[u8]) -> io::Result<()> {
+        self.file_size(name)?;
         let mut options = File::options();
         options.append(true);
         let mut file = options.open(&self.rt, name)?;
-        require_file(&file.metadata()?)?;
         write_piece(&mut file, bytes)
-    }
-}
-
-fn require_file(metadata: &Metadata) -> io::Result<()> {
-    if metadata.is_file() {
-        Ok(())
-    } else {
-        Err(io::Error::from(ErrorKind::InvalidInput))
     }
 }
 
@@ -125,7 +119,7 @@ impl<R: Files + Drop> Depot for FileDepot<R> {
     fn size(&mut self, name: &str) -> Result<Option<u64>, Trouble> {
         match self.file_size(name) {
             Ok(size) => Ok(size),
-            Err(error) => Err(self.trouble(error)),
+            Err(error) => Err(self.count_fault(error)),
         }
     }
 
@@ -133,21 +127,21 @@ impl<R: Files + Drop> Depot for FileDepot<R> {
         self.reads = self.reads.saturating_add(1);
         match self.read_range(name, pos, into) {
             Ok(()) => Ok(()),
-            Err(error) => Err(self.trouble(error)),
+            Err(error) => Err(self.count_fault(error)),
         }
     }
 
     fn create(&mut self, name: &str) -> Result<(), Trouble> {
         match self.create_file(name) {
             Ok(()) => Ok(()),
-            Err(error) => Err(self.write_trouble(error)),
+            Err(error) => Err(self.count_write_fault(error)),
         }
     }
 
     fn append(&mut self, name: &str, bytes: &[u8]) -> Result<(), Trouble> {
         match self.append_bytes(name, bytes) {
             Ok(()) => Ok(()),
-            Err(error) => Err(self.write_trouble(error)),
+            Err(error) => Err(self.count_write_fault(error)),
         }
     }
 }
@@ -170,6 +164,7 @@ mod tests {
         assert_eq!(rt; depot.size("file_depot/sub/part.bin"), Ok(Some(6)));
         assert_eq!(rt; depot.size("file_depot/empty.bin"), Ok(Some(0)));
         assert_eq!(rt; depot.size("file_depot/sub"), Err(Trouble::Failed));
+        assert_eq!(rt; depot.size("/dev/null"), Err(Trouble::Failed));
 
         let mut part = [0u8; 3];
         assert_eq!(rt;
@@ -184,6 +179,7 @@ mod tests {
             ("file_depot/empty.bin", 0, 0, Ok(())),
             ("file_depot/none.bin", 0, 0, Err(Trouble::Failed)),
             ("file_depot/sub", 0, 0, Err(Trouble::Failed)),
+            ("/dev/null", 0, 0, Err(Trouble::Failed)),
         ];
         for (name, pos, count, want) in ranges {
             let mut into = [0u8; 3];
@@ -214,7 +210,14 @@ mod tests {
             fs::read_to_string(&rt, "file_depot/new.bin")?.as_str(),
             "abcd"
         );
-        assert_eq!(rt; depot.create("file_depot/sub"), Err(Trouble::Failed));
+        for name in ["file_depot/sub", "/dev/null"] {
+            assert_eq!(rt; depot.create(name), Err(Trouble::Failed), "{name}");
+            assert_eq!(rt;
+                depot.append(name, b"x".as_slice()),
+                Err(Trouble::Failed),
+                "{name}"
+            );
+        }
         assert_eq!(rt;
             depot.create("file_depot/none/new.bin"),
             Err(Trouble::Failed)

@@ -1,4 +1,4 @@
-//! A depot in memory, whose calls fail exactly where they are told to.
+//! A depot in memory, whose calls can be made to fail.
 ghost use Rattle.std.specs.Prelude.{◌≡◌, ◌↔◌, ◌≤◌, [], IsSome, IsNone, IsErrOf, List, ℕ, Bool, Option, Some, length, Contains, IsTrue, IsOk, IsErr, IfSome, IfOk, OnOk, OnErr, IfErr, is_ok, refl, if◌then◌else◌};
 ghost use Rattle.std.specs.Option.{option_copied};
 ghost use Rattle.std.specs.FinMap as map;
@@ -8,20 +8,26 @@ ghost use Rattle.gm_outside.specs.Files.{Files, size_of, HasRange, HasBytesAt};
 
 use crate::file_list::FileList;
 use crate::traits::{Depot, Trouble};
-use std::alloc::{AllocError, Global};
+use gm_base::Memory;
+use std::alloc::Global;
 use std::marker::Model;
 
 /// A call of a depot that can be made to fail.
 #[derive(Clone, Copy, Debug, PartialEq, Eq)]
 pub enum Call {
+    /// A call of `size`.
     Size,
+    /// A call of `read_at`.
     Read,
+    /// A call of `create`.
     Create,
+    /// A call of `append`.
     Append,
 }
 
 /// Files in memory. A call fails exactly where its kind and its number, counted from 1 for each kind,
-/// are listed, or where `read_at` finds no such range. It never wants memory.
+/// are listed, where `read_at` finds no such range, or where `append` finds no such file. Besides,
+/// `create`, `append` and `put` may want memory.
 #[derive(Drop)]
 pub struct MemDepot {
     files: FileList,
@@ -81,11 +87,12 @@ impl MemDepot {
     }
 
     /// Stores a whole file in place of one of its name. It fails only for want of memory.
-    pub fn put(&mut self, name: &str, bytes: &[u8]) -> Result<(), AllocError>
+    pub fn put(&mut self, name: &str, bytes: &[u8]) -> Result<(), Memory>
         ensures ok { OnOk result (self.new ≡ record self.old { files = map.insert self.old.files name.now bytes.now }) }
         ensures err { OnErr result (self.new ≡ self.old) }
     {
-        self.files.put(name, bytes)
+        self.files.put(name, bytes)?;
+        Ok(())
     }
 
     /// The bytes of a file.

@@ -7,7 +7,7 @@ ghost use Rattle.gm_outside.specs.Files.{HasRange};
 use crate::traits::{Depot, Trouble};
 use std::alloc::{AllocError, Global};
 
-/// The first `size` bytes of a file, by one call of `read_at`.
+/// Reads the first `size` bytes of a file, which may hold more, by one call of `read_at`.
 ///
 /// It fails as that call does, and wants memory for the bytes: then the file may not have been read.
 pub fn read_whole<D: Depot>(

@@ -9,10 +9,12 @@ ghost use Rattle.gm_outside.specs.declared.traits.Trouble.TheVariants.{Memory};
 
 use std::alloc::AllocError;
 
-/// Why a call on the outside gave up: it failed, or found no memory.
+/// Why a call on the outside gave up.
 #[derive(Clone, Copy, Debug, PartialEq, Eq)]
 pub enum Trouble {
+    /// The call failed, and whoever answered it counted a fault.
     Failed,
+    /// There was no memory for the call. That is no fault.
     Memory,
 }
 
@@ -116,5 +118,6 @@ pub trait Sink {
 
 /// What a job passes before it goes over a chunk, by their numbers. It changes nothing.
 pub trait Gate {
+    /// Returns once the job may go over the chunk.
     fn passing(&self, job: u32, chunk: u32);
 }

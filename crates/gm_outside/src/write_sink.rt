@@ -42,9 +42,39 @@ impl<W: Write + Drop> Sink for WriteSink<W> {
 #[cfg(test)]
 mod tests {
     use super::WriteSink;
-    use crate::traits::Sink;
+    use crate::traits::{Sink, Trouble};
     use std::fs;
+    use std::io::{self, Write};
     use std::test::Fail;
+
+    /// A writer that takes so many bytes, one at a write, and then none.
+    #[derive(Drop)]
+    struct Narrow {
+        room: usize,
+    }
+
+    impl Write for Narrow {
+        fn write(&mut self, bytes: &[u8]) -> io::Result<usize> {
+            if bytes.is_empty() || self.room == 0 {
+                return Ok(0);
+            }
+            self.room -= 1;
+            Ok(1)
+        }
+
+        fn flush(&mut self) -> io::Result<()> {
+            Ok(())
+        }
+    }
+
+    #[test]
+    fn a_write_of_nothing_is_a_fault(rt: HostRuntime) -> Result<(), Fail> {
+        let mut sink = WriteSink::new(Narrow { room: 7 });
+        assert_eq!(rt; sink.write(b"job a ".as_slice()), Ok(()));
+        assert_eq!(rt; sink.write(b"vers".as_slice()), Err(Trouble::Failed));
+        assert_eq!(rt; sink.write(b"".as_slice()), Ok(()));
+        Ok(())
+    }
 
     #[test]
     fn vec_and_file(rt: HostRuntime) -> Result<(), Fail> {

@@ -7,13 +7,16 @@ ghost use Rattle.gm_base.specs.Kernels.{kernel_of};
 ghost use Rattle.gm_base.specs.Runs.{gifts_to, value_after_round, values_after};
 
 use gm_base::Spec;
+use gm_kernel::rounds_keep_the_length;
 
 /// A law: after every round the ranks of n vertices add up to at most n times the rank of 1,000,000,000 that each begins with.
 pub fn ranks_never_grow()
     ensures { (n rounds round : ℕ) (edges : List Edge)
         → IsGraph n edges
         → sum (values_after (kernel_of (Spec.Rank rounds)) n edges round) ≤ n * 1000000000 }
-{}
+{
+    rounds_keep_the_length();
+}
 
 /// A law: on at most 2^20 vertices the cap on joins is never met: in every round a vertex gets what it carries plus all of its gifts.
 pub fn ranks_are_plain_sums()
@@ -24,4 +27,6 @@ pub fn ranks_are_plain_sums()
         → let kernel = kernel_of (Spec.Rank rounds) in
         let values = values_after kernel n edges round in
         value_after_round kernel edges values v ≡ 150000000 + sum (gifts_to kernel (out_degree edges) values edges v) }
-{}
+{
+    rounds_keep_the_length();
+}

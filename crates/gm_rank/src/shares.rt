@@ -44,8 +44,8 @@ pub fn take_shares(ranks: &[u64], degrees: &[u32], shares: &mut [u64])
     ensures taken { AreShares (λ u. slice_index degrees.now u) ranks.now shares.new }
     ensures length { length shares.new ≡ length shares.old }
 {
-    for u in 0..shares.len() {
-        shares[u] = share(ranks[u], degrees[u]);
+    for (vertex, &rank) in ranks.iter().enumerate() {
+        shares[vertex] = share(rank, degrees[vertex]);
     }
 }
 

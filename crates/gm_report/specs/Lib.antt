@@ -1,3 +1,2 @@
-pub mod ErrorLines
 pub mod Pieces
 pub mod Report

@@ -1,5 +1,5 @@
 -- A text that is written in pieces: what of it is written already, and what is still pending.
-use Rattle.std.specs.Prelude.{◌≡◌, ℕ, List, [], ◌++◌, Option, refl}
+use Rattle.std.specs.Prelude.{◌≡◌, ℕ, List, [], ◌++◌, Option}
 use Rattle.std.proofs.Common.{append_assoc, append-nil, sym, ap, subst, ◌∙◌}
 use Rattle.gm_outside.specs.Growth.{GrewBy, GrewByPrefix, grew_by-nothing, grew_by-then, grew_by_prefix-then}
 

@@ -1,7 +1,6 @@
-//! The report: the text of the jobs' lines, written in pieces of 4,096 bytes.
+//! Texts on their way out: lines on the stack, pieces of 4,096 bytes, and the report of the jobs' lines.
 #![tactic(auto)]
 
-mod error_line;
 mod examples;
 mod line;
 mod lines;
@@ -10,7 +9,7 @@ mod report;
 #[cfg(test)]
 mod tests;
 
-pub use error_line::{say_line, say_usage};
 pub use examples::{report_of_failures, report_of_levels, report_with_an_unreached_vertex};
+pub use line::{LINE, Line};
 pub use pieces::{PIECE, Pieces};
 pub use report::write;

@@ -7,11 +7,11 @@ use gm_base::{TOP, digits};
 use std::marker::Model;
 
 /// How many bytes a line has at most.
-pub(crate) const LINE: usize = 128;
+pub const LINE: usize = 128;
 
-/// The bytes of a line.
+/// The bytes of a line: a text of at most `LINE` bytes.
 #[derive(Drop)]
-pub(crate) struct Line {
+pub struct Line {
     bytes: ArrayVec<u8, LINE>,
 }
 
@@ -27,7 +27,7 @@ impl Line {
     ghost use Rattle.gm_report.specs.Report.{value_text};
 
     /// No bytes.
-    pub(crate) fn new() -> Line
+    pub fn new() -> Line
         ensures { result ≡ [] }
     {
         Line {
@@ -36,7 +36,7 @@ impl Line {
     }
 
     /// Adds a text.
-    pub(crate) fn text(&mut self, text: &[u8])
+    pub fn text(&mut self, text: &[u8])
         requires { length self.old + length text.now ≤ LINE }
         ensures { self.new ≡ self.old ++ text.now }
     {
@@ -44,8 +44,8 @@ impl Line {
         extended.unwrap();
     }
 
-    /// Adds a number in decimal.
-    pub(crate) fn number(&mut self, number: u64)
+    /// Adds a number in decimal, at most 20 digits.
+    pub fn number(&mut self, number: u64)
         requires { length self.old + 20 ≤ LINE }
         ensures text { self.new ≡ self.old ++ decimal number }
         ensures short { length self.new ≤ length self.old + 20 }
@@ -56,7 +56,7 @@ impl Line {
     }
 
     /// Adds a value, a dash for a vertex that isn't reached.
-    pub(crate) fn value(&mut self, value: u64)
+    pub fn value(&mut self, value: u64)
         requires { length self.old + 20 ≤ LINE }
         ensures text { self.new ≡ self.old ++ value_text value }
         ensures short { length self.new ≤ length self.old + 20 }
@@ -69,7 +69,7 @@ impl Line {
     }
 
     /// The bytes.
-    pub(crate) fn as_slice(&self) -> &[u8]
+    pub fn as_slice(&self) -> &[u8]
         ensures { result.now ≡ self.now }
     {
         self.bytes.as_slice()

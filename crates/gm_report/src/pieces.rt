@@ -37,11 +37,13 @@ impl Pieces {
         }
     }
 
-    /// Adds bytes to the text, and writes a piece where one is full. After a refusal a first part of the text was written.
+    /// Adds bytes to the text, and writes a piece where one is full. After a refusal a first part of the text was written, and nothing is
+    /// pending.
     pub fn push<K: Sink>(&mut self, sink: &mut K, bytes: &[u8]) -> Result<(), Trouble>
         requires { length bytes.now ≤ PIECE }
         ensures ok { OnOk result (Streams (K.written sink.old) self.old (K.written sink.new) self.new bytes.now) }
         ensures err { OnErr result (GrewByPrefix (K.written sink.old) (K.written sink.new) (self.old ++ bytes.now)) }
+        ensures dropped { OnErr result (self.new ≡ []) }
         ensures fault { HasCause Trouble.Failed (K.faults sink.old) (K.faults sink.new) result }
         ensures lack { HasCause Trouble.Memory (K.lacks sink.old) (K.lacks sink.new) result }
     {
@@ -52,16 +54,29 @@ impl Pieces {
         }
         let (front, back) = bytes.split_at(room);
         extend(&mut self.pending, front);
-        sink.write(self.pending.as_slice())?;
-        self.pending.clear();
+        self.send(sink)?;
         extend(&mut self.pending, back);
         Ok(())
+    }
+
+    /// Writes what is pending. Then nothing is, also after a refusal.
+    fn send<K: Sink>(&mut self, sink: &mut K) -> Result<(), Trouble>
+        ensures ok { OnOk result (GrewBy (K.written sink.old) (K.written sink.new) self.old) }
+        ensures err { OnErr result (GrewByPrefix (K.written sink.old) (K.written sink.new) self.old) }
+        ensures nothing { self.new ≡ [] }
+        ensures fault { HasCause Trouble.Failed (K.faults sink.old) (K.faults sink.new) result }
+        ensures lack { HasCause Trouble.Memory (K.lacks sink.old) (K.lacks sink.new) result }
+    {
+        let written = sink.write(self.pending.as_slice());
+        self.pending.clear();
+        written
     }
 
     /// The same for bytes of any length.
     pub fn push_all<K: Sink>(&mut self, sink: &mut K, bytes: &[u8]) -> Result<(), Trouble>
         ensures ok { OnOk result (Streams (K.written sink.old) self.old (K.written sink.new) self.new bytes.now) }
         ensures err { OnErr result (GrewByPrefix (K.written sink.old) (K.written sink.new) (self.old ++ bytes.now)) }
+        ensures dropped { OnErr result (self.new ≡ []) }
         ensures fault { HasCause Trouble.Failed (K.faults sink.old) (K.faults sink.new) result }
         ensures lack { HasCause Trouble.Memory (K.lacks sink.old) (K.lacks sink.new) result }
     {

@@ -5,7 +5,7 @@ use gm_base::{JobLine, Name, Outcome, TOP, Values};
 use gm_outside::{MemSink, Trouble};
 use std::test::Fail;
 
-/// A job whose report has three pieces: 9,750 bytes in all.
+/// A job whose report has three pieces, 9,750 bytes in all: lines of 23 to 25 bytes behind one of 35.
 #[test]
 fn a_report_goes_out_in_pieces(rt: HostRuntime) -> Result<(), Fail> {
     for (fails, outcome, count) in [
@@ -26,7 +26,19 @@ fn a_report_goes_out_in_pieces(rt: HostRuntime) -> Result<(), Fail> {
         };
         let mut sink = MemSink::new(rt.alloc(), fails);
         assert_eq!(rt; write(&[job], &mut sink), outcome);
-        assert_eq!(rt; sink.written().len(), count);
+        let written = sink.written();
+        let length = written.len();
+        assert_eq!(rt; length, count);
+        let head = b"job abcdef version 0 done rounds 1\n0 18446744073709551614\n1 1";
+        assert_eq!(rt;
+            &written[..length.min(head.len())],
+            &head[..length.min(head.len())]
+        );
+        if length == 9750 {
+            assert!(rt;
+                written.ends_with(b"\n391 18446744073709551614\n392 18446744073709551614\n")
+            );
+        }
     }
     Ok(())
 }

@@ -1,5 +1,5 @@
 -- What a reader has read of a file, and what follows of its answers.
-use Rattle.std.proofs.Common.{arith, ◌≡◌, ℕ, ◌+◌, ◌≤◌, Bool, List, [], ◌++◌, length, take, drop, Option, Some, None, Result, Ok, Err, IfSome, refl, sym, ap, subst, ◌∙◌, append_assoc}
+use Rattle.std.proofs.Common.{◌≡◌, ℕ, ◌+◌, ◌≤◌, List, ◌++◌, length, take, drop, Option, Some, None, Ok, Err, IfSome, refl, sym, ap, subst, ◌∙◌, append_assoc, []}
 use Rattle.std.specs.Prelude.{IsSomeAnd}
 use Rattle.std.specs.Option.{option_map}
 use Rattle.std.specs.FinMap.{get}
@@ -9,12 +9,12 @@ use Rattle.gm_base.specs.declared.edge.Edge.{Edge}
 use Rattle.gm_outside.specs.Files.{Files, size_of, HasBytesAt}
 use Rattle.gm_edges.specs.declared.error.EdgeError.{EdgeError}
 use Rattle.gm_edges.specs.declared.error.EdgeError.TheVariants.{BadLine, NoVertex, TooManyEdges, Memory}
-use Rattle.gm_edges.specs.declared.scanner.Scanner.{Scanner}
 use Rattle.gm_edges.specs.EdgeText.{edge_list_of}
-use Rattle.gm_edges.specs.Scanner.{HasRead, IsUnlessMemory}
-use Rattle.gm_tools.specs.declared.failure.Failure.{Failure}
-use Rattle.gm_tools.specs.declared.failure.Failure.TheVariants.{NoSuchFile, NotAnEdge, NoSuchVertex, EdgeTooMany, ReadFailed, WriteFailed, OutputFailed, OutOfMemory}
-use Rattle.gm_tools.specs.Failures.{failure_of, refusal_in, text_refusal, edges_refusal, AreTaken, IsReadingCause}
+use Rattle.gm_edges.specs.Scanner.{ReaderState, HasRead, IsUnlessMemory}
+use Rattle.gm_commands.specs.declared.operand.Operand.TheVariants.{Edges}
+use Rattle.gm_commands.specs.declared.failure.Refusal.TheVariants.{NoSuchFile}
+use Rattle.gm_commands.specs.Endings.{DepotChange, AreTaken}
+use Rattle.gm_tools.specs.EdgeFiles.{failure_of, refusal_in, text_refusal, edges_refusal, EndsReading}
 use Rattle.gm_tools.specs.Readings.{ListsEdges, IsFront, HasReadFront}
 
 -- nothing is read of a file of this size
@@ -28,7 +28,7 @@ start_in : (size : ℕ) (files : Option Files) (name : List ℕ) → IfSome file
 start_in size None name sized = tt
 start_in size (Some held) name sized = start_of size (get held name) sized
 
-pub front_at_start : (n size : ℕ) (files : Option Files) (name : List ℕ) (reader : Result Scanner EdgeError)
+pub front_at_start : (n size : ℕ) (files : Option Files) (name : List ℕ) (reader : ReaderState)
     → IfSome files (λ held. Some size ≡ size_of held name) → HasRead n [] reader → HasReadFront n files name size 0 reader
 front_at_start n size files name reader sized read = record { text = []; read = read; front = start_in size files name sized }
 
@@ -46,7 +46,7 @@ more_in : (size pos : ℕ) (text piece : List ℕ) (files : Option Files) (name 
 more_in size pos text piece None name there front = tt
 more_in size pos text piece (Some held) name there front = more_of size pos text piece (get held name) there front
 
-pub front_on : (n size pos : ℕ) (files : Option Files) (name piece : List ℕ) (old new : Result Scanner EdgeError)
+pub front_on : (n size pos : ℕ) (files : Option Files) (name piece : List ℕ) (old new : ReaderState)
     → IfSome files (λ held. HasBytesAt held name pos piece)
     → ((m : ℕ) (text : List ℕ) → HasRead m text old → HasRead m (text ++ piece) new)
     → HasReadFront n files name size pos old → HasReadFront n files name size (pos + length piece) new
@@ -62,20 +62,31 @@ abbrev Refuses : ℕ → List ℕ → EdgeError → Files → Type 0
 Refuses n name refusal held = (text : List ℕ) × (get held name ≡ Some text) × IsUnlessMemory {A = List Edge} (Err refusal) (edge_list_of text n)
 
 refused_with : (n : ℕ) (name text : List ℕ) (held : Files) (refusal : EdgeError) → get held name ≡ Some text
-    → edge_list_of text n ≡ Err refusal → edges_refusal n name held ≡ Some (failure_of refusal)
+    → edge_list_of text n ≡ Err refusal → edges_refusal n name held ≡ refusal_in (Err refusal)
 unfolding edges_refusal
 refused_with n name text held refusal is e = ap (text_refusal n) is ∙ ap refusal_in e
 
-pub refused_as : (n : ℕ) (files : Option Files) (name : List ℕ) (calm : Bool) (before now : ℕ) (refusal : EdgeError)
-    → IfSome files (Refuses n name refusal) → IsReadingCause (edges_refusal n name) files calm before now (failure_of refusal)
-refused_as n None name calm before now (BadLine line) r = tt
-refused_as n None name calm before now (NoVertex line) r = tt
-refused_as n None name calm before now (TooManyEdges line) r = tt
-refused_as n None name calm before now Memory r = tt
-refused_as n (Some held) name calm before now (BadLine line) r = refused_with n name r.0 held (BadLine line) r.1 r.2
-refused_as n (Some held) name calm before now (NoVertex line) r = refused_with n name r.0 held (NoVertex line) r.1 r.2
-refused_as n (Some held) name calm before now (TooManyEdges line) r = refused_with n name r.0 held (TooManyEdges line) r.1 r.2
-refused_as n (Some held) name calm before now Memory r = tt
+pub refused_as : (n : ℕ) (name : List ℕ) (depot : DepotChange) (refusal : EdgeError)
+    → IfSome depot.files (Refuses n name refusal) → EndsReading n name depot (failure_of refusal)
+refused_as n name depot (BadLine line) r = (tt, refused_in_files n depot.files name r)
+  where
+    refused_in_files : (n : ℕ) (files : Option Files) (name : List ℕ) → IfSome files (Refuses n name (BadLine line))
+        → IfSome files (λ held. edges_refusal n name held ≡ refusal_in (Err (BadLine line)))
+    refused_in_files n None name r = tt
+    refused_in_files n (Some held) name r = refused_with n name r.0 held (BadLine line) r.1 r.2
+refused_as n name depot (NoVertex line) r = (tt, refused_in_files n depot.files name r)
+  where
+    refused_in_files : (n : ℕ) (files : Option Files) (name : List ℕ) → IfSome files (Refuses n name (NoVertex line))
+        → IfSome files (λ held. edges_refusal n name held ≡ refusal_in (Err (NoVertex line)))
+    refused_in_files n None name r = tt
+    refused_in_files n (Some held) name r = refused_with n name r.0 held (NoVertex line) r.1 r.2
+refused_as n name depot (TooManyEdges line) r = (tt, refused_in_files n depot.files name r)
+  where
+    refused_in_files : (n : ℕ) (files : Option Files) (name : List ℕ) → IfSome files (Refuses n name (TooManyEdges line))
+        → IfSome files (λ held. edges_refusal n name held ≡ refusal_in (Err (TooManyEdges line)))
+    refused_in_files n None name r = tt
+    refused_in_files n (Some held) name r = refused_with n name r.0 held (TooManyEdges line) r.1 r.2
+refused_as n name depot Memory r = (tt, tt)
 
 -- a front, a piece behind it and the rest are the whole file
 refused_of : (n size pos : ℕ) (text piece : List ℕ) (refusal : EdgeError) (found : Option (List ℕ))
@@ -105,14 +116,14 @@ refused_in n size pos text piece refusal (Some held) name there front decides =
     refused_of n size pos text piece refusal (get held name) there front decides
 
 -- a reader's refusal at a piece is the refusal of the file
-pub refused_at_piece : (n size pos : ℕ) (files : Option Files) (name piece : List ℕ) (calm : Bool) (before now : ℕ) (refusal : EdgeError)
-    (reader : Result Scanner EdgeError) → IfSome files (λ held. HasBytesAt held name pos piece)
+pub refused_at_piece : (n size pos : ℕ) (name piece : List ℕ) (depot : DepotChange) (refusal : EdgeError)
+    (reader : ReaderState) → IfSome depot.files (λ held. HasBytesAt held name pos piece)
     → ((m : ℕ) (text rest : List ℕ) → HasRead m text reader → IsUnlessMemory {A = List Edge} (Err refusal) (edge_list_of (text ++ piece ++ rest) m))
-    → HasReadFront n files name size pos reader
-    → IsReadingCause (edges_refusal n name) files calm before now (failure_of refusal)
-refused_at_piece n size pos files name piece calm before now refusal reader there decides front =
-    refused_as n files name calm before now refusal
-    (refused_in n size pos front.text piece refusal files name there front.front (λ rest. decides n front.text rest front.read))
+    → HasReadFront n depot.files name size pos reader
+    → EndsReading n name depot (failure_of refusal)
+refused_at_piece n size pos name piece depot refusal reader there decides front =
+    refused_as n name depot refusal
+    (refused_in n size pos front.text piece refusal depot.files name there front.front (λ rest. decides n front.text rest front.read))
 
 -- what was read of a file of this size is the whole file
 whole_of : (size : ℕ) (text : List ℕ) (found : Option (List ℕ))
@@ -136,45 +147,32 @@ refuses n text None name refusal is e = tt
 refuses n text (Some held) name refusal is e = (text, is, e)
 
 -- the edges of a reader of the whole file are those that the file lists
-pub listed_at_end : (n size : ℕ) (files : Option Files) (name : List ℕ) (edges : List Edge) (reader : Result Scanner EdgeError)
+pub listed_at_end : (n size : ℕ) (files : Option Files) (name : List ℕ) (edges : List Edge) (reader : ReaderState)
     → ((m : ℕ) (text : List ℕ) → HasRead m text reader → edge_list_of text m ≡ Ok edges)
     → HasReadFront n files name size size reader → IfSome files (λ held. ListsEdges held name n edges)
 listed_at_end n size files name edges reader answers front =
     listed n front.text files name edges (whole_in size front.text files name front.front) (answers n front.text front.read)
 
 -- a refusal of a reader of the whole file is the refusal of the file
-pub refused_at_end : (n size : ℕ) (files : Option Files) (name : List ℕ) (calm : Bool) (before now : ℕ) (refusal : EdgeError)
-    (reader : Result Scanner EdgeError)
+pub refused_at_end : (n size : ℕ) (name : List ℕ) (depot : DepotChange) (refusal : EdgeError)
+    (reader : ReaderState)
     → ((m : ℕ) (text : List ℕ) → HasRead m text reader → IsUnlessMemory {A = List Edge} (Err refusal) (edge_list_of text m))
-    → HasReadFront n files name size size reader → IsReadingCause (edges_refusal n name) files calm before now (failure_of refusal)
-refused_at_end n size files name calm before now refusal reader answers front =
-    refused_as n files name calm before now refusal
-    (refuses n front.text files name refusal (whole_in size front.text files name front.front) (answers n front.text front.read))
-
--- the cause of a failure holds from an earlier count on
-pub later_cause : (refusal : Files → Option Failure) (files mid : Option Files) (calm calm_mid : Bool) (before then now : ℕ) (failure : Failure)
-    → mid ≡ files → calm_mid ≡ calm → before ≤ then → IsReadingCause refusal mid calm_mid then now failure
-    → IsReadingCause refusal files calm before now failure
-later_cause refusal files mid calm calm_mid before then now NoSuchFile f k later is = subst (λ (x : Option Files). IsReadingCause refusal x calm then now NoSuchFile) f is
-later_cause refusal files mid calm calm_mid before then now (NotAnEdge line) f k later is = subst (λ (x : Option Files). IsReadingCause refusal x calm then now (NotAnEdge line)) f is
-later_cause refusal files mid calm calm_mid before then now (NoSuchVertex line) f k later is = subst (λ (x : Option Files). IsReadingCause refusal x calm then now (NoSuchVertex line)) f is
-later_cause refusal files mid calm calm_mid before then now (EdgeTooMany line) f k later is = subst (λ (x : Option Files). IsReadingCause refusal x calm then now (EdgeTooMany line)) f is
-later_cause refusal files mid calm calm_mid before then now ReadFailed f k later is = (omega (arith, is.0, later), λ yes. is.1 (k ∙ yes))
-later_cause refusal files mid calm calm_mid before then now WriteFailed f k later is = is
-later_cause refusal files mid calm calm_mid before then now OutputFailed f k later is = is
-later_cause refusal files mid calm calm_mid before then now OutOfMemory f k later is = tt
+    → HasReadFront n depot.files name size size reader → EndsReading n name depot (failure_of refusal)
+refused_at_end n size name depot refusal reader answers front =
+    refused_as n name depot refusal
+    (refuses n front.text depot.files name refusal (whole_in size front.text depot.files name front.front) (answers n front.text front.read))
 
 -- a file without a size is missing
-missing_of : (n : ℕ) (found : Option (List ℕ)) → None ≡ option_map length found → text_refusal n found ≡ Some NoSuchFile
+missing_of : (n : ℕ) (found : Option (List ℕ)) → None ≡ option_map length found → text_refusal n found ≡ Some (NoSuchFile Edges)
 missing_of n None e = refl
 missing_of n (Some bytes) e = cc
 
-missing_in : (n : ℕ) (name : List ℕ) (held : Files) → None ≡ size_of held name → edges_refusal n name held ≡ Some NoSuchFile
+missing_in : (n : ℕ) (name : List ℕ) (held : Files) → None ≡ size_of held name → edges_refusal n name held ≡ Some (NoSuchFile Edges)
 unfolding edges_refusal
 missing_in n name held e = missing_of n (get held name) e
 
 pub refused_where_missing : (n : ℕ) (files : Option Files) (name : List ℕ) → IfSome files (λ held. None ≡ size_of held name)
-    → IfSome files (λ held. edges_refusal n name held ≡ Some NoSuchFile)
+    → IfSome files (λ held. edges_refusal n name held ≡ Some (NoSuchFile Edges))
 refused_where_missing n None name sized = tt
 refused_where_missing n (Some held) name sized = missing_in n name held sized
 

@@ -1,4 +1,3 @@
-pub mod Commands
-pub mod Failures
+pub mod EdgeFiles
 pub mod Readings
 pub mod Endings

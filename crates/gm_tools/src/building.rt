@@ -1,23 +1,28 @@
 //! One build: the edges of the text, the grid's file and the output.
 
-ghost use Rattle.std.specs.Prelude.{◌≡◌, ◌≤◌, ◌⊎◌, ◌*◌, length, IsTrue, IfErr, OnOk, OnErr};
+ghost use Rattle.std.specs.Prelude.{◌≡◌, ◌≤◌, ◌⊎◌, ◌*◌, length, IfErr, IsErrOf, OnOk, OnErr, IsTrue};
 ghost use Rattle.gm_base.specs.Graph.{IsGraph};
+ghost use Rattle.gm_outside.specs.Causes.{Rose};
 ghost use Rattle.gm_outside.specs.Changes.{HoldsPrefix};
 ghost use Rattle.gm_outside.specs.Growth.{GrewBy, GrewByPrefix};
 ghost use Rattle.gm_grid.specs.Format.{most_edges};
 ghost use Rattle.gm_build.specs.Blocks.{built_file};
-ghost use Rattle.gm_tools.specs.Commands.{said};
-ghost use Rattle.gm_tools.specs.Failures.{first_refusal, AreTaken};
-ghost use Rattle.gm_tools.specs.Endings.{output_text, HoldsGrid, IsWritingFailure, IsOutputFailure, EndsBy, Builds, Leaves};
+ghost use Rattle.gm_commands.specs.Words.{build_said};
+ghost use Rattle.gm_commands.specs.StandardError.{sink_change};
+ghost use Rattle.gm_commands.specs.Endings.{depot_change, AreTaken, EndsBy};
+ghost use Rattle.gm_tools.specs.EdgeFiles.{first_refusal};
+ghost use Rattle.gm_tools.specs.Endings.{output_text, HoldsGrid, Builds, Leaves};
 
-use crate::command::BuildCommand;
-use crate::failure::Failure;
-use crate::line::Line;
 use crate::reading::read_edges;
 use gm_base::Edges;
 use gm_build::build;
+use gm_commands::{BuildCommand, Failure, Operand};
 use gm_outside::{Depot, Sink, Trouble};
+use gm_report::Line;
 use std::alloc::Global;
+
+/// The failure of a call on the grid's file.
+const WRITE_FAILED: Failure = Failure::WriteFailed(Operand::Grid);
 
 /// Makes the command's grid of these edges.
 fn build_grid<D: Depot>(
@@ -25,21 +30,19 @@ fn build_grid<D: Depot>(
     depot: &mut D,
     command: &BuildCommand<'_>,
     edges: &Edges,
-) -> Result<(), Failure>
+) -> Result<(), Trouble>
     requires ends { IsGraph command.now.shape.n edges.now }
     requires few { length edges.now ≤ most_edges }
-    ensures ok { OnOk result (HoldsGrid (said command.now) (D.files depot.old) (D.files depot.new) edges.now) }
-    ensures err { IfErr result (IsWritingFailure (D.calm depot.old) (D.faults depot.old) (D.faults depot.new) (D.write_faults depot.old) (D.write_faults depot.new)) }
+    ensures ok { OnOk result (HoldsGrid (build_said command.now) (D.files depot.old) (D.files depot.new) edges.now) }
     ensures left { OnErr result ((D.files depot.new ≡ D.files depot.old)
         ⊎ HoldsPrefix (D.files depot.old) (D.files depot.new) command.now.grid.now (built_file command.now.shape edges.now)) }
+    ensures cause { IsErrOf result Trouble.Failed → Rose (D.faults depot.old) (D.faults depot.new) }
+    ensures write_cause { IsErrOf result Trouble.Failed → Rose (D.write_faults depot.old) (D.write_faults depot.new) }
+    ensures calm { IsTrue (D.calm depot.old) → IsErrOf result Trouble.Failed → ⊥ }
     ensures later { D.faults depot.old ≤ D.faults depot.new }
     ensures calm_kept { D.calm depot.new ≡ D.calm depot.old }
 {
-    match build(alloc, edges, &command.shape, depot, command.grid) {
-        Ok(()) => Ok(()),
-        Err(Trouble::Failed) => Err(Failure::WriteFailed),
-        Err(Trouble::Memory) => Err(Failure::OutOfMemory),
-    }
+    build(alloc, edges, &command.shape, depot, command.grid)
 }
 
 /// The output for so many edges and blocks.
@@ -56,21 +59,6 @@ fn output_line(edges: usize, blocks: u32) -> Line
     line
 }
 
-/// Writes the output, in one piece.
-fn write_output<K: Sink>(out: &mut K, edges: usize, blocks: u32) -> Result<(), Failure>
-    ensures ok { OnOk result (GrewBy (K.written out.old) (K.written out.new) (output_text edges blocks)) }
-    ensures err { OnErr result (GrewByPrefix (K.written out.old) (K.written out.new) (output_text edges blocks)) }
-    ensures causes { IfErr result (IsOutputFailure (K.faults out.old) (K.faults out.new)) }
-    ensures later { K.faults out.old ≤ K.faults out.new }
-{
-    let line = output_line(edges, blocks);
-    match out.write(line.as_slice()) {
-        Ok(()) => Ok(()),
-        Err(Trouble::Failed) => Err(Failure::OutputFailed),
-        Err(Trouble::Memory) => Err(Failure::OutOfMemory),
-    }
-}
-
 /// Reads the command's edges, makes their grid and writes the output.
 pub(crate) fn build_and_tell<D: Depot, K: Sink>(
     alloc: Global,
@@ -78,27 +66,20 @@ pub(crate) fn build_and_tell<D: Depot, K: Sink>(
     depot: &mut D,
     out: &mut K,
 ) -> Result<(), Failure>
-    ensures go { OnOk result (AreTaken (first_refusal (said command.now)) (D.files depot.old)) }
-    ensures builds { OnOk result (Builds (said command.now) (D.files depot.old) (D.files depot.new) (K.written out.old) (K.written out.new)) }
-    ensures err { IfErr result (EndsBy (first_refusal (said command.now))
-        (record { files = D.files depot.old; files_now = D.files depot.new; calm = D.calm depot.old; faults = D.faults depot.old; faults_now = D.faults depot.new; write_faults = D.write_faults depot.old; write_faults_now = D.write_faults depot.new })
-        (K.faults out.old) (K.faults out.new)) }
-    ensures leaves { IfErr result (Leaves (said command.now)
-        (record { files = D.files depot.old; files_now = D.files depot.new; calm = D.calm depot.old; faults = D.faults depot.old; faults_now = D.faults depot.new; write_faults = D.write_faults depot.old; write_faults_now = D.write_faults depot.new })
-        (K.written out.old) (K.written out.new)) }
+    ensures go { OnOk result (AreTaken (first_refusal (build_said command.now)) (D.files depot.old)) }
+    ensures builds { OnOk result (Builds (build_said command.now) (D.files depot.old) (D.files depot.new) (K.written out.old) (K.written out.new)) }
+    ensures err { IfErr result (EndsBy (first_refusal (build_said command.now))
+        (depot_change ⟦<D as Depot>⟧ depot.old depot.new) (sink_change ⟦<K as Sink>⟧ out.old out.new)) }
+    ensures leaves { IfErr result (Leaves
+        (depot_change ⟦<D as Depot>⟧ depot.old depot.new) (sink_change ⟦<K as Sink>⟧ out.old out.new) (build_said command.now)) }
     ensures depot_later { D.faults depot.old ≤ D.faults depot.new }
     ensures out_later { K.faults out.old ≤ K.faults out.new }
     ensures calm_kept { D.calm depot.new ≡ D.calm depot.old }
 {
-    let n = command.shape.n();
     let parts = command.shape.parts();
-    let edges = match read_edges(alloc, depot, command.edges, n) {
-        Ok(edges) => edges,
-        Err(failure) => return Err(failure),
-    };
-    match build_grid(alloc, depot, command, &edges) {
-        Ok(()) => {}
-        Err(failure) => return Err(failure),
-    }
-    write_output(out, edges.as_slice().len(), parts * parts)
+    let edges = read_edges(alloc, depot, command.edges, command.shape.n())?;
+    build_grid(alloc, depot, command, &edges).map_err(|trouble| WRITE_FAILED.by(trouble))?;
+    let output = output_line(edges.as_slice().len(), parts * parts);
+    out.write(output.as_slice())
+        .map_err(|trouble| Failure::OutputFailed.by(trouble))
 }

@@ -1,24 +1,34 @@
 //! Reading the text of an edge list in pieces.
 
-ghost use Rattle.std.specs.Prelude.{◌≡◌, ◌+◌, ◌≤◌, ◌^◌, ℕ, length, IsTrue, IfOk, IfErr, OnOk, IfSome, Some, vec_len};
-ghost use Rattle.gm_base.specs.Graph.{IsGraph};
+ghost use Rattle.std.specs.Prelude.{◌≡◌, ◌+◌, ◌≤◌, ◌^◌, ℕ, length, IfOk, IfErr, OnOk, IfSome, Some, vec_len};
+ghost use Rattle.gm_base.specs.Graph.{most_edges, IsGraph};
 ghost use Rattle.gm_outside.specs.Files.{size_of};
-ghost use Rattle.gm_tools.specs.Failures.{edges_refusal, AreTaken, IsReadingCause};
+ghost use Rattle.gm_commands.specs.Endings.{depot_change, AreTaken};
+ghost use Rattle.gm_tools.specs.EdgeFiles.{edges_refusal, failure_of, EndsReading};
 ghost use Rattle.gm_tools.specs.Readings.{ListsEdges, HasReadFront};
 
-use crate::failure::{Failure, failure_of};
 use gm_base::Edges;
-use gm_edges::EdgeReader;
-use gm_outside::{Depot, Trouble};
+use gm_commands::{Failure, Operand, Refusal};
+use gm_edges::{EdgeError, EdgeReader};
+use gm_outside::Depot;
 use std::alloc::{AllocError, Global};
 
 /// How many bytes of the text are read at once.
 const PIECE: usize = 65_536;
 
-fn zeros(alloc: Global, count: usize) -> Result<Vec<u8>, AllocError>
-    ensures { IfOk result (λ zeros. vec_len zeros ≡ count) }
+/// The failure of a call on the file of edges.
+const READ_FAILED: Failure = Failure::ReadFailed(Operand::Edges);
+
+/// The failure that a reader's refusal is.
+fn failure_of(error: EdgeError) -> Failure
+    ensures { result ≡ failure_of error }
 {
-    vec![in alloc; 0; count]
+    match error {
+        EdgeError::BadLine { line } => Failure::Refused(Refusal::NotAnEdge { line }),
+        EdgeError::NoVertex { line } => Failure::Refused(Refusal::NoSuchVertex { line }),
+        EdgeError::TooManyEdges { line } => Failure::Refused(Refusal::EdgeTooMany { line }),
+        EdgeError::Memory => Failure::OutOfMemory,
+    }
 }
 
 /// Reads the next bytes of the text, as many as `into` takes.
@@ -32,7 +42,7 @@ fn read_piece<D: Depot>(
     ensures reads { (n size : ℕ) → HasReadFront n (D.files depot.old) name.now size pos reader.old
         → OnOk result (HasReadFront n (D.files depot.old) name.now size (pos + length into.old) reader.new) }
     ensures err { (n size : ℕ) → HasReadFront n (D.files depot.old) name.now size pos reader.old → pos + length into.old ≤ size
-        → IfErr result (IsReadingCause (edges_refusal n name.now) (D.files depot.old) (D.calm depot.old) (D.faults depot.old) (D.faults depot.new)) }
+        → IfErr result (EndsReading n name.now (depot_change ⟦<D as Depot>⟧ depot.old depot.new)) }
     ensures later { D.faults depot.old ≤ D.faults depot.new }
     ensures files_kept { D.files depot.new ≡ D.files depot.old }
     ensures calm_kept { D.calm depot.new ≡ D.calm depot.old }
@@ -40,12 +50,11 @@ fn read_piece<D: Depot>(
 {
     match depot.read_at(name, pos, into) {
         Ok(()) => {}
-        Err(Trouble::Failed) => return Err(Failure::ReadFailed),
-        Err(Trouble::Memory) => return Err(Failure::OutOfMemory),
+        Err(trouble) => return Err(READ_FAILED.by(trouble)),
     }
     match reader.feed(into) {
         Ok(()) => Ok(()),
-        Err(refusal) => Err(failure_of(refusal)),
+        Err(error) => Err(failure_of(error)),
     }
 }
 
@@ -63,7 +72,7 @@ fn read_text<D: Depot>(
     requires vertices { n ≤ 2 ^ 20 }
     requires size { IfSome (D.files depot.old) (λ files. Some size ≡ size_of files name.now) }
     ensures ok { IfOk result (λ reader. HasReadFront n (D.files depot.old) name.now size size reader) }
-    ensures err { IfErr result (IsReadingCause (edges_refusal n name.now) (D.files depot.old) (D.calm depot.old) (D.faults depot.old) (D.faults depot.new)) }
+    ensures err { IfErr result (EndsReading n name.now (depot_change ⟦<D as Depot>⟧ depot.old depot.new)) }
     ensures later { D.faults depot.old ≤ D.faults depot.new }
     ensures files_kept { D.files depot.new ≡ D.files depot.old }
     ensures calm_kept { D.calm depot.new ≡ D.calm depot.old }
@@ -74,13 +83,26 @@ fn read_text<D: Depot>(
     while pos < size {
         let count = (size - pos).min(buffer.len() as u64);
         let piece = &mut buffer[..count as usize];
-        match read_piece(depot, name, pos, piece, &mut reader) {
-            Ok(()) => {}
-            Err(failure) => return Err(failure),
-        }
+        read_piece(depot, name, pos, piece, &mut reader)?;
         pos += count;
     }
     Ok(reader)
+}
+
+/// The length of the file of edges.
+fn size_of_edges<D: Depot>(depot: &mut D, name: &str) -> Result<u64, Failure>
+    ensures size { IfSome (D.files depot.old) (λ files. IfOk result (λ size. Some size ≡ size_of files name.now)) }
+    ensures err { (n : ℕ) → IfErr result (EndsReading n name.now (depot_change ⟦<D as Depot>⟧ depot.old depot.new)) }
+    ensures later { D.faults depot.old ≤ D.faults depot.new }
+    ensures files_kept { D.files depot.new ≡ D.files depot.old }
+    ensures calm_kept { D.calm depot.new ≡ D.calm depot.old }
+    ensures write_faults_kept { D.write_faults depot.new ≡ D.write_faults depot.old }
+{
+    match depot.size(name) {
+        Ok(Some(size)) => Ok(size),
+        Ok(None) => Err(Failure::Refused(Refusal::NoSuchFile(Operand::Edges))),
+        Err(trouble) => Err(READ_FAILED.by(trouble)),
+    }
 }
 
 /// The edges that the text of a file lists, for a graph of n vertices.
@@ -95,29 +117,25 @@ pub(crate) fn read_edges<D: Depot>(
     ensures lists { IfSome (D.files depot.old) (λ files. IfOk result (λ edges. ListsEdges files name.now n edges)) }
     ensures go { OnOk result (AreTaken (edges_refusal n name.now) (D.files depot.old)) }
     ensures graph { IfOk result (λ edges. IsGraph n edges) }
-    ensures few { IfOk result (λ edges. length edges ≤ 2 ^ 24) }
-    ensures err { IfErr result (IsReadingCause (edges_refusal n name.now) (D.files depot.old) (D.calm depot.old) (D.faults depot.old) (D.faults depot.new)) }
+    ensures few { IfOk result (λ edges. length edges ≤ most_edges) }
+    ensures err { IfErr result (EndsReading n name.now (depot_change ⟦<D as Depot>⟧ depot.old depot.new)) }
     ensures later { D.faults depot.old ≤ D.faults depot.new }
     ensures files_kept { D.files depot.new ≡ D.files depot.old }
     ensures calm_kept { D.calm depot.new ≡ D.calm depot.old }
     ensures write_faults_kept { D.write_faults depot.new ≡ D.write_faults depot.old }
 {
-    let size = match depot.size(name) {
-        Ok(Some(size)) => size,
-        Ok(None) => return Err(Failure::NoSuchFile),
-        Err(Trouble::Failed) => return Err(Failure::ReadFailed),
-        Err(Trouble::Memory) => return Err(Failure::OutOfMemory),
-    };
-    let mut buffer = match zeros(alloc, PIECE) {
-        Ok(buffer) => buffer,
-        Err(_) => return Err(Failure::OutOfMemory),
-    };
-    let reader = match read_text(alloc, depot, name, size, n, &mut buffer) {
-        Ok(reader) => reader,
-        Err(failure) => return Err(failure),
-    };
+    let size = size_of_edges(depot, name)?;
+    let mut buffer = zeros(alloc, PIECE)?;
+    let reader = read_text(alloc, depot, name, size, n, &mut buffer)?;
     match reader.finish() {
         Ok(edges) => Ok(edges),
-        Err(refusal) => Err(failure_of(refusal)),
+        Err(error) => Err(failure_of(error)),
     }
+}
+
+/// So many zeros, as room for a piece.
+fn zeros(alloc: Global, count: usize) -> Result<Vec<u8>, AllocError>
+    ensures { IfOk result (λ zeros. vec_len zeros ≡ count) }
+{
+    vec![in alloc; 0; count]
 }

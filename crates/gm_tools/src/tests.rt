@@ -125,6 +125,29 @@ fn output_fails_at_its_first_write(rt: HostRuntime) -> Result<(), Fail> {
     Ok(())
 }
 
+/// A comment of so many bytes, and an edge behind it.
+fn text_with_comment(rt: &HostRuntime, length: usize) -> Result<Vec<u8>, Fail> {
+    let mut text = vec![in rt.alloc(); b'#'; length]?;
+    text.extend_from_slice(b"\n0 1\n")?;
+    Ok(text)
+}
+
+/// 65,536 bytes are one piece, one byte more is two.
+#[test]
+fn long_texts_are_read_in_pieces(rt: HostRuntime) -> Result<(), Fail> {
+    for (length, reads) in [(65_531, 1), (65_532, 2), (131_068, 3)] {
+        let end = call(&rt, &WORDS, &text_with_comment(&rt, length)?, &[], &[])?;
+        assert_eq!(rt; end.status, 0, "{length}");
+        assert_eq!(rt;
+            end.out.written(),
+            b"edges 1 blocks 4\n".as_slice(),
+            "{length}"
+        );
+        assert_eq!(rt; end.depot.reads(), reads, "{length}");
+    }
+    Ok(())
+}
+
 #[test]
 fn words_are_refused(rt: HostRuntime) -> Result<(), Fail> {
     let usage =

@@ -1,12 +1,12 @@
 -- What follows from what a run loaded.
-use Rattle.std.proofs.Common.{◌≡◌, ℕ, List, [], ◌∷◌, Option, Some, None, IfSome, sym, ◌∙◌, ap, subst}
+use Rattle.std.proofs.Common.{◌≡◌, ℕ, List, [], ◌∷◌, Option, Some, None, IfSome, ◌∙◌, ap, subst}
 use Rattle.gm_base.specs.declared.edge.Edge.{Edge}
 use Rattle.gm_base.specs.declared.job.JobLine.{JobLine}
 use Rattle.gm_base.specs.declared.job.Outcome.{Outcome}
 use Rattle.gm_base.specs.Runs.{lone_run}
 use Rattle.gm_outside.specs.Files.{Files}
-use Rattle.gm_top.specs.Commands.{RunCommand}
-use Rattle.gm_jobs.specs.JobText.{Job}
+use Rattle.gm_commands.specs.Words.{RunCommand}
+use Rattle.gm_jobs.specs.declared.job.Job.{Job}
 use Rattle.gm_top.specs.Loads.{HoldsGrid, TellsJob}
 use Rattle.gm_top.specs.Reports.{AreLinesOf}
 

@@ -1,6 +1,5 @@
 pub mod Rounds
-pub mod Commands
-pub mod Failures
+pub mod Refusals
 pub mod Reports
 pub mod Loads
 pub mod Endings

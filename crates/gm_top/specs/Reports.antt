@@ -1,5 +1,5 @@
 -- What a run writes: the report of its jobs' lone runs over all edges of the grid.
-use Rattle.std.specs.Prelude.{◌≡◌, ℕ, Bool, true, false, if◌then◌else◌, ◌⊎◌, List, [], ◌∷◌, Option, Some, IfSome}
+use Rattle.std.specs.Prelude.{◌≡◌, ℕ, Bool, true, false, if◌then◌else◌, List, [], ◌∷◌, Option, Some}
 use Rattle.std.specs.List.{list_any}
 use Rattle.std.specs.FinMap.{get}
 use Rattle.gm_base.specs.declared.edge.Edge.{Edge}
@@ -7,14 +7,13 @@ use Rattle.gm_base.specs.declared.job.JobLine.{JobLine}
 use Rattle.gm_base.specs.Runs.{lone_run}
 use Rattle.gm_outside.specs.Files.{Files}
 use Rattle.gm_grid.specs.Format.{IsGrid, edges_of_grid}
-use Rattle.gm_top.specs.Commands.{RunCommand}
+use Rattle.gm_commands.specs.Words.{RunCommand}
 use Rattle.gm_base.specs.declared.job.Outcome.{Outcome}
 use Rattle.gm_base.specs.declared.job.Outcome.TheVariants.{Done, Rounds, Read, Changed, Memory}
 use Rattle.gm_outside.specs.Growth.{GrewBy, GrewByPrefix}
 use Rattle.gm_report.specs.Report.{report_text}
-use Rattle.gm_top.specs.declared.failure.Failure.{Failure}
-use Rattle.gm_top.specs.declared.failure.Failure.TheVariants.{NoSuchFile, BadGrid, NotBuiltYet, ReadFailed, OutputFailed, OutOfMemory}
-use Rattle.gm_jobs.specs.JobText.{Job, job_of_text}
+use Rattle.gm_jobs.specs.declared.job.Job.{Job}
+use Rattle.gm_jobs.specs.JobText.{job_of_text}
 
 abbrev pub is_failure : Outcome → Bool
 is_failure (Done rounds values) = false
@@ -62,12 +61,3 @@ pub record ReportsPrefix (command : RunCommand) (files : Files) (old new : Optio
   pub lines : List JobLine
   pub lone : AreLinesOf command files lines
   pub written : GrewByPrefix old new (report_text lines)
-
--- what standard output has after a failure: nothing, or a first part of the report
-abbrev pub LeavesWritten : RunCommand → Option Files → Option (List ℕ) → Option (List ℕ) → Failure → Type 0
-LeavesWritten command files old new (NoSuchFile place) = new ≡ old
-LeavesWritten command files old new BadGrid = new ≡ old
-LeavesWritten command files old new NotBuiltYet = new ≡ old
-LeavesWritten command files old new (ReadFailed place) = new ≡ old
-LeavesWritten command files old new OutputFailed = IfSome files (λ held. ReportsPrefix command held old new)
-LeavesWritten command files old new OutOfMemory = (new ≡ old) ⊎ IfSome files (λ held. ReportsPrefix command held old new)

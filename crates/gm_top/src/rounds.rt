@@ -1,16 +1,19 @@
 //! Synchronous rounds over one list of edges.
 
-ghost use Rattle.std.specs.Prelude.{◌≡◌, ℕ, ◌<◌, ◌≤◌, ◌^◌, length, slice_index, map, All, IfOk, vec_len, replicate};
+ghost use Rattle.std.specs.Prelude.{◌≡◌, ℕ, ◌≤◌, ◌^◌, length, slice_index, map, IfOk, vec_len};
 ghost use Rattle.std.specs.List.{range_with_len};
 ghost use Rattle.std.specs.Str.{bytes_eq};
-ghost use Rattle.gm_base.specs.Graph.{HasEndsBelow, IsGraph, out_degree};
+ghost use Rattle.gm_base.specs.Graph.{most_edges, IsGraph, out_degree};
+ghost use Rattle.gm_base.specs.Kernels.{kernel_of};
 ghost use Rattle.gm_base.specs.Runs.{lone_run, round_of, values_after, settled_run};
-ghost use Rattle.gm_top.specs.Rounds.{GivesAlike, IgnoresDegrees};
+ghost use Rattle.gm_kernel.specs.Laws.{GivesTheSame};
+ghost use Rattle.gm_rank.specs.Ranks.{rank_job};
+ghost use Rattle.gm_top.specs.Rounds.{IgnoresDegrees};
 
 use gm_base::{Edge, Outcome, Spec, Values};
-use gm_kernel::{Kernel, pass_edges};
+use gm_kernel::{Kernel, pass_edges, sums_are_the_round};
 use gm_paths::{Bfs, Sssp};
-use gm_rank::{Rank, count_pass};
+use gm_rank::{Rank, count_pass, pass_shares, take_shares};
 use gm_wcc::Least;
 use std::alloc::{AllocError, Global};
 use std::mem;
@@ -32,8 +35,8 @@ fn carry<K: Kernel>(kernel: &K, values: &[u64], sums: &mut [u64])
     requires { length sums.old ≡ length values.now }
     ensures { sums.new ≡ map (K.functions kernel.now).carried_value values.now }
 {
-    for v in 0..values.len() {
-        sums[v] = kernel.start(values[v]);
+    for (vertex, &value) in values.iter().enumerate() {
+        sums[vertex] = kernel.start(value);
     }
 }
 
@@ -47,12 +50,13 @@ fn make_round<K: Kernel>(
 )
     requires graph { IsGraph (length values.now) edges.now }
     requires degree_count { length degrees.now ≡ length values.now }
-    requires degrees { GivesAlike (K.functions kernel.now) (slice_index degrees.now) (out_degree edges.now) }
+    requires degrees { GivesTheSame (K.functions kernel.now) (slice_index degrees.now) (out_degree edges.now) }
     requires sum_count { length sums.old ≡ length values.now }
     ensures { sums.new ≡ round_of (K.functions kernel.now) edges.now values.now }
 {
     carry(kernel, values, sums);
     pass_edges(kernel, edges, values, degrees, sums);
+    sums_are_the_round();
 }
 
 /// Moves the values on by one round, and answers whether it left them as they were. The sums are room for as many values.
@@ -65,7 +69,7 @@ fn advance<K: Kernel>(
 ) -> bool
     requires graph { IsGraph (vec_len values.old) edges.now }
     requires degree_count { length degrees.now ≡ vec_len values.old }
-    requires degrees { GivesAlike (K.functions kernel.now) (slice_index degrees.now) (out_degree edges.now) }
+    requires degrees { GivesTheSame (K.functions kernel.now) (slice_index degrees.now) (out_degree edges.now) }
     requires sum_count { vec_len sums.old ≡ vec_len values.old }
     ensures round { values.new.items ≡ round_of (K.functions kernel.now) edges.now values.old.items }
     ensures settled { result ≡ bytes_eq values.new.items values.old.items }
@@ -89,9 +93,9 @@ pub(crate) fn settle<K: Kernel>(
     requires degrees { IgnoresDegrees (K.functions kernel.now) }
     ensures { IfOk result (λ outcome. outcome ≡ settled_run (K.functions kernel.now) n edges.now bound) }
 {
-    let degrees = zero_degrees(alloc, n)?;
+    let degrees = vec![in alloc; 0; n as usize]?;
     let mut values = initial_values(alloc, kernel, n)?;
-    let mut sums = zero_sums(alloc, n)?;
+    let mut sums = vec![in alloc; 0; n as usize]?;
     for done in 0..bound {
         if advance(kernel, edges, &degrees, &mut values, &mut sums) {
             return Ok(Outcome::Done {
@@ -103,54 +107,64 @@ pub(crate) fn settle<K: Kernel>(
     Ok(Outcome::Rounds { bound })
 }
 
-fn zero_degrees(alloc: Global, n: u32) -> Result<Vec<u32>, AllocError>
-    ensures count { IfOk result (λ degrees. vec_len degrees ≡ n) }
-    ensures zeros { IfOk result (λ degrees. degrees.items ≡ replicate n 0) }
-{
-    vec![in alloc; 0; n as usize]
-}
-
-fn zero_sums(alloc: Global, n: u32) -> Result<Vec<u64>, AllocError>
-    ensures { IfOk result (λ sums. vec_len sums ≡ n) }
-{
-    vec![in alloc; 0; n as usize]
-}
-
-/// The values after so many rounds, with the out-degrees of the vertices.
-fn make_rounds<K: Kernel>(
-    alloc: Global,
-    kernel: &K,
-    n: u32,
-    edges: &[Edge],
-    degrees: &[u32],
-    rounds: u32,
-) -> Result<Outcome, AllocError>
-    requires graph { IsGraph n edges.now }
-    requires degree_count { length degrees.now ≡ n }
-    requires degrees { GivesAlike (K.functions kernel.now) (slice_index degrees.now) (out_degree edges.now) }
-    ensures { IfOk result (λ outcome. outcome ≡ Outcome.Done rounds (values_after (K.functions kernel.now) n edges.now rounds)) }
-{
-    let mut values = initial_values(alloc, kernel, n)?;
-    let mut sums = zero_sums(alloc, n)?;
-    for _done in 0..rounds {
-        let _settled = advance(kernel, edges, degrees, &mut values, &mut sums);
-    }
-    Ok(Outcome::Done {
-        rounds,
-        values: Values::from_vec(values),
-    })
-}
-
 /// The out-degree of each vertex.
 fn count_degrees(alloc: Global, n: u32, edges: &[Edge]) -> Result<Vec<u32>, AllocError>
     requires graph { IsGraph n edges.now }
-    requires few { length edges.now ≤ 2 ^ 24 }
+    requires few { length edges.now ≤ most_edges }
     ensures count { IfOk result (λ degrees. vec_len degrees ≡ n) }
     ensures degrees { IfOk result (λ degrees. (v : ℕ) → slice_index degrees.items v ≡ out_degree edges.now v) }
 {
-    let mut degrees = zero_degrees(alloc, n)?;
+    let mut degrees = vec![in alloc; 0; n as usize]?;
     count_pass(edges, &mut degrees);
     Ok(degrees)
+}
+
+/// One round of a rank job: the sums become the ranks after it. Each vertex's share is taken once, into `shares`.
+fn make_rank_round(
+    kernel: &Rank,
+    edges: &[Edge],
+    degrees: &[u32],
+    ranks: &[u64],
+    shares: &mut [u64],
+    sums: &mut [u64],
+)
+    requires graph { IsGraph (length ranks.now) edges.now }
+    requires degree_count { length degrees.now ≡ length ranks.now }
+    requires degrees { (v : ℕ) → slice_index degrees.now v ≡ out_degree edges.now v }
+    requires share_count { length shares.old ≡ length ranks.now }
+    requires sum_count { length sums.old ≡ length ranks.now }
+    ensures { sums.new ≡ round_of (kernel_of rank_job) edges.now ranks.now }
+{
+    carry(kernel, ranks, sums);
+    take_shares(ranks, degrees, shares);
+    pass_shares(edges, shares, sums);
+    sums_are_the_round();
+}
+
+/// A rank job's lone run. Room for the ranks, shares and sums is taken once for all rounds.
+fn make_rank_rounds(
+    alloc: Global,
+    n: u32,
+    edges: &[Edge],
+    rounds: u32,
+) -> Result<Outcome, AllocError>
+    requires graph { IsGraph n edges.now }
+    requires few { length edges.now ≤ most_edges }
+    ensures { IfOk result (λ outcome. outcome ≡ Outcome.Done rounds (values_after (kernel_of (Spec.Rank rounds)) n edges.now rounds)) }
+{
+    let kernel = Rank { rounds };
+    let degrees = count_degrees(alloc, n, edges)?;
+    let mut ranks = initial_values(alloc, &kernel, n)?;
+    let mut shares = vec![in alloc; 0; n as usize]?;
+    let mut sums = vec![in alloc; 0; n as usize]?;
+    for _done in 0..rounds {
+        make_rank_round(&kernel, edges, &degrees, &ranks, &mut shares, &mut sums);
+        mem::swap(&mut ranks, &mut sums);
+    }
+    Ok(Outcome::Done {
+        rounds,
+        values: Values::from_vec(ranks),
+    })
 }
 
 /// A job's lone run over a graph of n vertices.
@@ -161,16 +175,13 @@ pub(crate) fn lone_run(
     edges: &[Edge],
 ) -> Result<Outcome, AllocError>
     requires graph { IsGraph n edges.now }
-    requires few { length edges.now ≤ 2 ^ 24 }
+    requires few { length edges.now ≤ most_edges }
     ensures { IfOk result (λ outcome. outcome ≡ lone_run spec n edges.now) }
 {
     match spec {
         Spec::Bfs { source, bound } => settle(alloc, &Bfs { source }, n, edges, bound),
         Spec::Sssp { source, bound } => settle(alloc, &Sssp { source }, n, edges, bound),
         Spec::Wcc { bound } => settle(alloc, &Least, n, edges, bound),
-        Spec::Rank { rounds } => {
-            let degrees = count_degrees(alloc, n, edges)?;
-            make_rounds(alloc, &Rank { rounds }, n, edges, &degrees, rounds)
-        }
+        Spec::Rank { rounds } => make_rank_rounds(alloc, n, edges, rounds),
     }
 }

@@ -1,7 +1,4 @@
 //! The whole path over files in memory: texts, statuses, and each call failing in turn.
-//!
-//! Long texts stand in functions without contracts, so that no proof carries them.
-
 use crate::graphm;
 use gm_base::Words;
 use gm_outside::{Call, MemDepot, MemSink, OpenGate};
@@ -9,25 +6,17 @@ use std::sync::Arc;
 use std::test::Fail;
 
 /// Four vertices in two ranges: 0 to 1, 1 to 2, 0 to 2 of weight 5, 2 to 3.
-fn way_file() -> &'static [u8] {
-    b"GGRID001\x04\0\0\0\x02\0\0\0\x01\0\0\0\0\0\0\0\x02\0\0\0\0\0\0\0\0\0\0\0\0\0\0\0\x01\0\0\0\0\0\0\0\0\0\0\0\x01\0\0\0\x01\0\0\0\x01\0\0\0\x02\0\0\0\x01\0\0\0\0\0\0\0\x02\0\0\0\x05\0\0\0\x02\0\0\0\x03\0\0\0\x01\0\0\0"
-}
+const WAY: &[u8] =
+    b"GGRID001\x04\0\0\0\x02\0\0\0\x01\0\0\0\0\0\0\0\x02\0\0\0\0\0\0\0\0\0\0\0\0\0\0\0\x01\0\0\0\0\0\0\0\0\0\0\0\x01\0\0\0\x01\0\0\0\x01\0\0\0\x02\0\0\0\x01\0\0\0\0\0\0\0\x02\0\0\0\x05\0\0\0\x02\0\0\0\x03\0\0\0\x01\0\0\0";
 
-fn report() -> &'static [u8] {
-    b"job a version 0 done rounds 3\n0 0\n1 1\n2 1\n3 2\n"
-}
+const REPORT: &[u8] = b"job a version 0 done rounds 3\n0 0\n1 1\n2 1\n3 2\n";
 
-fn usage() -> &'static [u8] {
-    b"graphm: usage: run GRID JOBS WORKERS CHUNK, build EDGES GRID N PARTS, info GRID CHUNK, drill NUMBER SCALE WORKERS\n"
-}
+const USAGE: &[u8] =
+    b"graphm: usage: run GRID JOBS WORKERS CHUNK, build EDGES GRID N PARTS, info GRID CHUNK, drill NUMBER SCALE WORKERS\n";
 
-fn grid_failed() -> &'static [u8] {
-    b"graphm: a.grid: read failed\n"
-}
+const GRID_FAILED: &[u8] = b"graphm: a.grid: read failed\n";
 
-fn jobs_failed() -> &'static [u8] {
-    b"graphm: j.txt: read failed\n"
-}
+const JOBS_FAILED: &[u8] = b"graphm: j.txt: read failed\n";
 
 /// How a call ended.
 #[derive(Drop)]
@@ -65,7 +54,7 @@ fn depot_of(rt: &HostRuntime, grid: &[u8], fails: Vec<(Call, u64)>) -> Result<Me
 /// Runs the job over the grid, where this call fails.
 fn run_failing(rt: &HostRuntime, kind: Call, number: u64) -> Result<End, Fail> {
     let fails = vec![in rt.alloc(); (kind, number)]?;
-    let depot = depot_of(rt, way_file(), fails)?;
+    let depot = depot_of(rt, WAY, fails)?;
     let (out, err) = (
         MemSink::new(rt.alloc(), Vec::new(rt.alloc())),
         MemSink::new(rt.alloc(), Vec::new(rt.alloc())),
@@ -89,8 +78,8 @@ fn each_call_fails_in_turn(rt: HostRuntime) -> Result<(), Fail> {
         for number in 1..4 {
             let end = run_failing(&rt, kind, number)?;
             let line = match number {
-                1 => grid_failed(),
-                2 => jobs_failed(),
+                1 => GRID_FAILED,
+                2 => JOBS_FAILED,
                 _ => b"",
             };
             assert_eq!(rt;
@@ -99,7 +88,7 @@ fn each_call_fails_in_turn(rt: HostRuntime) -> Result<(), Fail> {
                 "{kind:?} {number}"
             );
             assert_eq!(rt; end.err.written(), line, "{kind:?} {number}");
-            let out: &[u8] = if number < 3 { b"" } else { report() };
+            let out: &[u8] = if number < 3 { b"" } else { REPORT };
             assert_eq!(rt; end.out.written(), out, "{kind:?} {number}");
         }
     }
@@ -109,16 +98,16 @@ fn each_call_fails_in_turn(rt: HostRuntime) -> Result<(), Fail> {
 #[test]
 fn a_sink_fails_at_its_first_write(rt: HostRuntime) -> Result<(), Fail> {
     for count in [0, 10, 45] {
-        let depot = depot_of(&rt, way_file(), Vec::new(rt.alloc()))?;
+        let depot = depot_of(&rt, WAY, Vec::new(rt.alloc()))?;
         let out = MemSink::new(rt.alloc(), vec![in rt.alloc(); (1, count)]?);
         let err = MemSink::new(rt.alloc(), Vec::new(rt.alloc()));
         let end = call(&rt, "run a.grid j.txt 1 1", depot, out, err)?;
         assert_eq!(rt; end.status, 7);
         assert_eq!(rt; end.out.written().len(), count);
-        assert!(rt; report().starts_with(end.out.written()));
+        assert!(rt; REPORT.starts_with(end.out.written()));
         assert_eq!(rt; end.err.written(), b"graphm: output failed\n".as_slice());
     }
-    let depot = depot_of(&rt, way_file(), vec![in rt.alloc(); (Call::Read, 1)]?)?;
+    let depot = depot_of(&rt, WAY, vec![in rt.alloc(); (Call::Read, 1)]?)?;
     let out = MemSink::new(rt.alloc(), Vec::new(rt.alloc()));
     let err = MemSink::new(rt.alloc(), vec![in rt.alloc(); (1, 12)]?);
     let end = call(&rt, "run a.grid j.txt 1 1", depot, out, err)?;
@@ -129,36 +118,33 @@ fn a_sink_fails_at_its_first_write(rt: HostRuntime) -> Result<(), Fail> {
 }
 
 /// Words, the status that they end with, and their line.
-fn refused(case: usize) -> (&'static str, u8, &'static [u8]) {
-    match case {
-        0 => ("run b.grid j.txt 1 1", 3, b"graphm: b.grid: no such file\n"),
-        1 => (
-            "run a.grid b.txt 1 65536",
-            3,
-            b"graphm: b.txt: no such file\n",
-        ),
-        2 => (
-            "run a.grid a.grid 1 1",
-            5,
-            b"graphm: a.grid: not built yet\n",
-        ),
-        3 => ("run j.txt j.txt 1 1", 4, b"graphm: j.txt: bad grid\n"),
-        4 => ("run a.grid j.txt 0 1", 2, usage()),
-        5 => ("run a.grid j.txt 2 1", 2, usage()),
-        6 => ("run a.grid j.txt 1 0", 2, usage()),
-        7 => ("run a.grid j.txt 1 65537", 2, usage()),
-        8 => ("run  j.txt 1 1", 2, usage()),
-        9 => ("run a.grid -j.txt 1 1", 2, usage()),
-        10 => ("ruN a.grid j.txt 1 1", 2, usage()),
-        _ => ("", 2, usage()),
-    }
-}
+const REFUSED: [(&str, u8, &[u8]); 12] = [
+    ("run b.grid j.txt 1 1", 3, b"graphm: b.grid: no such file\n"),
+    (
+        "run a.grid b.txt 1 65536",
+        3,
+        b"graphm: b.txt: no such file\n",
+    ),
+    (
+        "run a.grid a.grid 1 1",
+        5,
+        b"graphm: a.grid: not built yet\n",
+    ),
+    ("run j.txt j.txt 1 1", 4, b"graphm: j.txt: bad grid\n"),
+    ("run a.grid j.txt 0 1", 2, USAGE),
+    ("run a.grid j.txt 2 1", 2, USAGE),
+    ("run a.grid j.txt 1 0", 2, USAGE),
+    ("run a.grid j.txt 1 65537", 2, USAGE),
+    ("run  j.txt 1 1", 2, USAGE),
+    ("run a.grid -j.txt 1 1", 2, USAGE),
+    ("ruN a.grid j.txt 1 1", 2, USAGE),
+    ("", 2, USAGE),
+];
 
 #[test]
 fn words_and_files_are_refused(rt: HostRuntime) -> Result<(), Fail> {
-    for case in 0..12 {
-        let (words, status, line) = refused(case);
-        let end = run_over(&rt, words, way_file())?;
+    for (words, status, line) in REFUSED {
+        let end = run_over(&rt, words, WAY)?;
         assert_eq!(rt; end.status, status, "{words}");
         assert_eq!(rt; end.err.written(), line, "{words}");
         assert_eq!(rt; end.out.written().len(), 0, "{words}");
@@ -173,14 +159,14 @@ fn report_with_byte_changed(place: usize) -> Option<&'static [u8]> {
         72 => Some(b"job a version 0 done rounds 4\n0 0\n1 1\n2 2\n3 3\n"),
         76 => Some(b"job a version 0 done rounds 3\n0 0\n1 1\n2 2\n3 1\n"),
         84 | 88 => Some(b"job a version 0 done rounds 2\n0 0\n1 1\n2 1\n3 -\n"),
-        56..=60 | 64 | 68..=71 | 80..=83 | 92..=95 => Some(report()),
+        56..=60 | 64 | 68..=71 | 80..=83 | 92..=95 => Some(REPORT),
         _ => None,
     }
 }
 
 /// The file with one byte changed in its lowest bit.
 fn changed_at(rt: &HostRuntime, place: usize) -> Result<Vec<u8>, Fail> {
-    let mut bytes = way_file().to_vec(rt.alloc())?;
+    let mut bytes = WAY.to_vec(rt.alloc())?;
     if place < bytes.len() {
         bytes[place] ^= 1;
     }
@@ -189,7 +175,7 @@ fn changed_at(rt: &HostRuntime, place: usize) -> Result<Vec<u8>, Fail> {
 
 /// The front of the file.
 fn cut_at(place: usize) -> &'static [u8] {
-    let file = way_file();
+    let file = WAY;
     if place < file.len() {
         &file[..place]
     } else {
@@ -201,14 +187,13 @@ fn cut_at(place: usize) -> &'static [u8] {
 fn each_byte_of_the_grid_counts(rt: HostRuntime) -> Result<(), Fail> {
     for place in 0..96 {
         let end = run_over(&rt, "run a.grid j.txt 1 1", &changed_at(&rt, place)?)?;
-        match report_with_byte_changed(place) {
-            Some(report) => assert_eq!(rt; end.out.written(), report, "at {place}"),
-            None => assert_eq!(rt;
-                end.err.written(),
-                b"graphm: a.grid: bad grid\n".as_slice(),
-                "at {place}"
-            ),
-        }
+        let (status, out, err) = match report_with_byte_changed(place) {
+            Some(report) => (0, report, b"".as_slice()),
+            None => (4, b"".as_slice(), b"graphm: a.grid: bad grid\n".as_slice()),
+        };
+        assert_eq!(rt; end.status, status, "at {place}");
+        assert_eq!(rt; end.out.written(), out, "at {place}");
+        assert_eq!(rt; end.err.written(), err, "at {place}");
         let cut = run_over(&rt, "run a.grid j.txt 1 1", cut_at(place))?;
         assert_eq!(rt; cut.status, 4, "at {place}");
         assert_eq!(rt; cut.out.written().len(), 0, "at {place}");
@@ -216,130 +201,158 @@ fn each_byte_of_the_grid_counts(rt: HostRuntime) -> Result<(), Fail> {
     Ok(())
 }
 
-/// Files of a graph of four vertices whose vertex 1 is joined to the others only against the direction of edges, of one vertex, of a way of
-/// three vertices with the greatest weights, and of three vertices with an edge from 0 to itself and two to 1.
-fn other_file(case: usize) -> &'static [u8] {
-    match case {
-        0 =>
-            b"GGRID001\x04\0\0\0\x02\0\0\0\0\0\0\0\0\0\0\0\x01\0\0\0\0\0\0\0\x01\0\0\0\0\0\0\0\x01\0\0\0\0\0\0\0\x01\0\0\0\x02\0\0\0\x01\0\0\0\x03\0\0\0\0\0\0\0\x01\0\0\0\x03\0\0\0\x02\0\0\0\x01\0\0\0",
-        1 => b"GGRID001\x01\0\0\0\x01\0\0\0\0\0\0\0\0\0\0\0",
-        2 =>
-            b"GGRID001\x03\0\0\0\x01\0\0\0\x02\0\0\0\0\0\0\0\0\0\0\0\x01\0\0\0\xff\xff\xff\xff\x01\0\0\0\x02\0\0\0\xff\xff\xff\xff",
-        _ =>
-            b"GGRID001\x03\0\0\0\x01\0\0\0\x03\0\0\0\0\0\0\0\0\0\0\0\0\0\0\0\x07\0\0\0\0\0\0\0\x01\0\0\0\x04\0\0\0\0\0\0\0\x01\0\0\0\x02\0\0\0",
-    }
-}
+/// Four vertices, where vertex 1 is joined to the others only against the direction of edges.
+const CROSSED: &[u8] =
+    b"GGRID001\x04\0\0\0\x02\0\0\0\0\0\0\0\0\0\0\0\x01\0\0\0\0\0\0\0\x01\0\0\0\0\0\0\0\x01\0\0\0\0\0\0\0\x01\0\0\0\x02\0\0\0\x01\0\0\0\x03\0\0\0\0\0\0\0\x01\0\0\0\x03\0\0\0\x02\0\0\0\x01\0\0\0";
 
-/// A job's file, its text, the status and the report.
-fn job(case: usize) -> (&'static [u8], &'static [u8], u8, &'static [u8]) {
-    match case {
-        0 => (way_file(), b"job a bfs 0", 0, report()),
-        1 => (
-            way_file(),
-            b"job a sssp 0",
-            0,
-            b"job a version 0 done rounds 4\n0 0\n1 1\n2 2\n3 3\n",
-        ),
-        2 => (
-            way_file(),
-            b"job a sssp 0 rounds 4",
-            0,
-            b"job a version 0 done rounds 4\n0 0\n1 1\n2 2\n3 3\n",
-        ),
-        3 => (
-            way_file(),
-            b"job a sssp 0 rounds 3",
-            1,
-            b"job a version 0 failed rounds 3\n",
-        ),
-        4 => (
-            way_file(),
-            b"job a wcc",
-            0,
-            b"job a version 0 done rounds 3\n0 0\n1 0\n2 0\n3 0\n",
-        ),
-        5 => (
-            way_file(),
-            b"job a rank 1",
-            0,
-            b"job a version 0 done rounds 1\n0 150000000\n1 575000000\n2 1425000000\n3 1000000000\n",
-        ),
-        6 => (
-            way_file(),
-            b"job a rank 2",
-            0,
-            b"job a version 0 done rounds 2\n0 150000000\n1 213750000\n2 702500000\n3 1361250000\n",
-        ),
-        7 => (
-            other_file(0),
-            b"job a wcc",
-            0,
-            b"job a version 0 done rounds 4\n0 0\n1 0\n2 0\n3 0\n",
-        ),
-        8 => (
-            other_file(1),
-            b"job a bfs 0",
-            0,
-            b"job a version 0 done rounds 1\n0 0\n",
-        ),
-        9 => (
-            other_file(1),
-            b"job a rank 3",
-            0,
-            b"job a version 0 done rounds 3\n0 150000000\n",
-        ),
-        10 => (
-            other_file(2),
-            b"job a sssp 0",
-            0,
-            b"job a version 0 done rounds 3\n0 0\n1 4294967295\n2 8589934590\n",
-        ),
-        11 => (
-            other_file(3),
-            b"job a bfs 0",
-            0,
-            b"job a version 0 done rounds 2\n0 0\n1 1\n2 -\n",
-        ),
-        12 => (
-            other_file(3),
-            b"job a sssp 0",
-            0,
-            b"job a version 0 done rounds 2\n0 0\n1 2\n2 -\n",
-        ),
-        13 => (
-            other_file(3),
-            b"job a wcc",
-            0,
-            b"job a version 0 done rounds 2\n0 0\n1 0\n2 2\n",
-        ),
-        14 => (
-            other_file(3),
-            b"job a bfs 0 rounds 1",
-            1,
-            b"job a version 0 failed rounds 1\n",
-        ),
-        _ => (
-            other_file(3),
-            b"job a bfs 2 rounds 1",
-            0,
-            b"job a version 0 done rounds 1\n0 -\n1 -\n2 0\n",
-        ),
-    }
-}
+/// One vertex.
+const ALONE: &[u8] = b"GGRID001\x01\0\0\0\x01\0\0\0\0\0\0\0\0\0\0\0";
+
+/// A way of three vertices over edges of the greatest weight.
+const HEAVY: &[u8] =
+    b"GGRID001\x03\0\0\0\x01\0\0\0\x02\0\0\0\0\0\0\0\0\0\0\0\x01\0\0\0\xff\xff\xff\xff\x01\0\0\0\x02\0\0\0\xff\xff\xff\xff";
+
+/// Three vertices: an edge from 0 to itself, and two edges from 0 to 1.
+const LOOPED: &[u8] =
+    b"GGRID001\x03\0\0\0\x01\0\0\0\x03\0\0\0\0\0\0\0\0\0\0\0\0\0\0\0\x07\0\0\0\0\0\0\0\x01\0\0\0\x04\0\0\0\0\0\0\0\x01\0\0\0\x02\0\0\0";
+
+/// A grid, a job of it, the status and the report.
+const JOBS: [(&[u8], &[u8], u8, &[u8]); 16] = [
+    (WAY, b"job a bfs 0", 0, REPORT),
+    (
+        WAY,
+        b"job a sssp 0",
+        0,
+        b"job a version 0 done rounds 4\n0 0\n1 1\n2 2\n3 3\n",
+    ),
+    (
+        WAY,
+        b"job a sssp 0 rounds 4",
+        0,
+        b"job a version 0 done rounds 4\n0 0\n1 1\n2 2\n3 3\n",
+    ),
+    (
+        WAY,
+        b"job a sssp 0 rounds 3",
+        1,
+        b"job a version 0 failed rounds 3\n",
+    ),
+    (
+        WAY,
+        b"job a wcc",
+        0,
+        b"job a version 0 done rounds 3\n0 0\n1 0\n2 0\n3 0\n",
+    ),
+    (
+        WAY,
+        b"job a rank 1",
+        0,
+        b"job a version 0 done rounds 1\n0 150000000\n1 575000000\n2 1425000000\n3 1000000000\n",
+    ),
+    (
+        WAY,
+        b"job a rank 2",
+        0,
+        b"job a version 0 done rounds 2\n0 150000000\n1 213750000\n2 702500000\n3 1361250000\n",
+    ),
+    (
+        CROSSED,
+        b"job a wcc",
+        0,
+        b"job a version 0 done rounds 4\n0 0\n1 0\n2 0\n3 0\n",
+    ),
+    (
+        ALONE,
+        b"job a bfs 0",
+        0,
+        b"job a version 0 done rounds 1\n0 0\n",
+    ),
+    (
+        ALONE,
+        b"job a rank 3",
+        0,
+        b"job a version 0 done rounds 3\n0 150000000\n",
+    ),
+    (
+        HEAVY,
+        b"job a sssp 0",
+        0,
+        b"job a version 0 done rounds 3\n0 0\n1 4294967295\n2 8589934590\n",
+    ),
+    (
+        LOOPED,
+        b"job a bfs 0",
+        0,
+        b"job a version 0 done rounds 2\n0 0\n1 1\n2 -\n",
+    ),
+    (
+        LOOPED,
+        b"job a sssp 0",
+        0,
+        b"job a version 0 done rounds 2\n0 0\n1 2\n2 -\n",
+    ),
+    (
+        LOOPED,
+        b"job a wcc",
+        0,
+        b"job a version 0 done rounds 2\n0 0\n1 0\n2 2\n",
+    ),
+    (
+        LOOPED,
+        b"job a bfs 0 rounds 1",
+        1,
+        b"job a version 0 failed rounds 1\n",
+    ),
+    (
+        LOOPED,
+        b"job a bfs 2 rounds 1",
+        0,
+        b"job a version 0 done rounds 1\n0 -\n1 -\n2 0\n",
+    ),
+];
 
 #[test]
 fn each_kind_of_job_gives_its_report(rt: HostRuntime) -> Result<(), Fail> {
-    for case in 0..16 {
-        let (grid, jobs, status, report) = job(case);
+    for (grid, jobs, status, report) in JOBS {
         let mut depot = MemDepot::new(rt.alloc(), Vec::new(rt.alloc()));
         depot.put("a.grid", grid)?;
         depot.put("j.txt", jobs)?;
         let out = MemSink::new(rt.alloc(), Vec::new(rt.alloc()));
         let err = MemSink::new(rt.alloc(), Vec::new(rt.alloc()));
         let end = call(&rt, "run a.grid j.txt 1 1", depot, out, err)?;
-        assert_eq!(rt; end.status, status, "{case}");
-        assert_eq!(rt; end.out.written(), report, "{case}");
-        assert_eq!(rt; end.err.written().len(), 0, "{case}");
+        assert_eq!(rt; end.status, status, "{jobs:?}");
+        assert_eq!(rt; end.out.written(), report, "{jobs:?}");
+        assert_eq!(rt; end.err.written().len(), 0, "{jobs:?}");
+    }
+    Ok(())
+}
+
+/// A job's line and a comment, so many bytes in all.
+fn job_text(rt: &HostRuntime, length: usize) -> Result<Vec<u8>, Fail> {
+    let mut text = b"job a bfs 0\n".to_vec(rt.alloc())?;
+    for _ in text.len()..length {
+        text.push(b'#')?;
+    }
+    Ok(text)
+}
+
+/// A text of 1,048,576 bytes is read, a longer one is refused by its size.
+#[test]
+fn a_long_job_text_is_refused_unread(rt: HostRuntime) -> Result<(), Fail> {
+    let refusal = b"graphm: j.txt: not built yet\n".as_slice();
+    for (length, status, out, line) in [
+        (1_048_576, 0, REPORT, b"".as_slice()),
+        (1_048_577, 5, b"", refusal),
+    ] {
+        let fails = vec![in rt.alloc(); (Call::Read, if status == 0 { 3 } else { 2 })]?;
+        let mut depot = depot_of(&rt, WAY, fails)?;
+        depot.put("j.txt", &job_text(&rt, length)?)?;
+        let sink = MemSink::new(rt.alloc(), Vec::new(rt.alloc()));
+        let err = MemSink::new(rt.alloc(), Vec::new(rt.alloc()));
+        let end = call(&rt, "run a.grid j.txt 1 1", depot, sink, err)?;
+        assert_eq!(rt; end.status, status, "{length}");
+        assert_eq!(rt; end.out.written(), out, "{length}");
+        assert_eq!(rt; end.err.written(), line, "{length}");
     }
     Ok(())
 }

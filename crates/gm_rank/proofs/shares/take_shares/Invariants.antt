@@ -3,5 +3,5 @@ use Rattle.std.specs.Prelude.{slice_index}
 use Rattle.gm_base.specs.Kernels.{share_of}
 use Rattle.gm_rank.proofs.shares.take_shares.Given as goal
 
-abbrev pub invariant-loop-u : goal.invariant-loop-u
-invariant-loop-u l = (k : ℕ) → k < l.u → slice_index l.shares k ≡ share_of (slice_index l.ranks k) (slice_index l.degrees k)
+abbrev pub invariant-loop-vertex : goal.invariant-loop-vertex
+invariant-loop-vertex l = (u : ℕ) → u < l.vertex → slice_index l.shares u ≡ share_of (slice_index l.ranks u) (slice_index l.degrees u)

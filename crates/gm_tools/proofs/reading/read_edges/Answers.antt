@@ -1,26 +1,22 @@
 use Rattle.std.proofs.Common.{subst, Option}
 use Rattle.gm_outside.specs.Files.{Files}
+use Rattle.gm_commands.specs.Endings.{depot_change}
 use Rattle.gm_tools.specs.Readings.{HasReadFront}
-use Rattle.gm_tools.proofs.Fronts.{refused_where_missing, refused_at_end, listed_at_end, taken_where_listed}
+use Rattle.gm_tools.proofs.Fronts.{refused_at_end, listed_at_end, taken_where_listed}
 use Rattle.gm_tools.proofs.reading.read_edges.Goals as goal
-
-pub returns-in-Ok-None-clause-err : goal.returns-in-Ok-None-clause-err
-returns-in-Ok-None-clause-err g c =
-    refused_where_missing c.args.n (g.D.Depot.files c.args.depot.now) c.args.name.now (rw c.in-Ok-None.field-0-is at c.in-Ok-None.ensures.size)
 
 pub returns-clause-err : goal.returns-clause-err
 returns-clause-err g c =
     rw c.failure_of.ensures
-    (refused_at_end c.args.n c.in-Ok-Some.size (g.D.Depot.files c.args.depot.now) c.args.name.now
-    (g.D.Depot.calm c.args.depot.now) (g.D.Depot.faults c.args.depot.now) (g.D.Depot.faults c.read_text.new.depot)
-    c.in-Err-finish.refusal c.in-Ok-read_text.reader c.in-Err-finish.ensures.answer
-    (subst (λ (f : Option Files). HasReadFront c.args.n f c.args.name.now c.in-Ok-Some.size c.in-Ok-Some.size c.in-Ok-read_text.reader)
-    c.size.ensures.files_kept c.in-Ok-read_text.ensures.ok))
+    (refused_at_end c.args.n c.in_ok-size.size c.args.name.now (depot_change g.D.Depot c.args.depot.now c.read_text.new.depot)
+    c.in-Err.error c.in_ok-reader.reader c.in-Err.ensures.answer
+    (subst (λ (f : Option Files). HasReadFront c.args.n f c.args.name.now c.in_ok-size.size c.in_ok-size.size c.in_ok-reader.reader)
+    c.size_of_edges.ensures.files_kept c.in_ok-reader.ensures.ok))
 
-pub returns-in-Ok-finish-clause-go : goal.returns-in-Ok-finish-clause-go
-returns-in-Ok-finish-clause-go g c =
-    taken_where_listed c.args.n (g.D.Depot.files c.args.depot.now) c.args.name.now c.in-Ok-finish.edges
-    (listed_at_end c.args.n c.in-Ok-Some.size (g.D.Depot.files c.args.depot.now) c.args.name.now c.in-Ok-finish.edges c.in-Ok-read_text.reader
-    c.in-Ok-finish.ensures.answer
-    (subst (λ (f : Option Files). HasReadFront c.args.n f c.args.name.now c.in-Ok-Some.size c.in-Ok-Some.size c.in-Ok-read_text.reader)
-    c.size.ensures.files_kept c.in-Ok-read_text.ensures.ok))
+pub returns-in-Ok-clause-go : goal.returns-in-Ok-clause-go
+returns-in-Ok-clause-go g c =
+    taken_where_listed c.args.n (g.D.Depot.files c.args.depot.now) c.args.name.now c.in-Ok.edges
+    (listed_at_end c.args.n c.in_ok-size.size (g.D.Depot.files c.args.depot.now) c.args.name.now c.in-Ok.edges c.in_ok-reader.reader
+    c.in-Ok.ensures.answer
+    (subst (λ (f : Option Files). HasReadFront c.args.n f c.args.name.now c.in_ok-size.size c.in_ok-size.size c.in_ok-reader.reader)
+    c.size_of_edges.ensures.files_kept c.in_ok-reader.ensures.ok))

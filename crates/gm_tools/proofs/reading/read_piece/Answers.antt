@@ -1,9 +1,18 @@
-use Rattle.gm_tools.proofs.Fronts.{refused_at_piece}
+use Rattle.std.proofs.Common.{◌+◌, ℕ, subst}
+use Rattle.gm_commands.specs.Endings.{depot_change}
+use Rattle.gm_tools.specs.Readings.{HasReadFront}
+use Rattle.gm_tools.proofs.Fronts.{front_on, refused_at_piece}
 use Rattle.gm_tools.proofs.reading.read_piece.Goals as goal
 
-pub returns-in-Err-clause-err : goal.returns-in-Err-clause-err
-returns-in-Err-clause-err g c n size front within =
+pub returns-in-Ok-feed-clause-reads : goal.returns-in-Ok-feed-clause-reads
+returns-in-Ok-feed-clause-reads g c n size front =
+    subst (λ (count : ℕ). HasReadFront n (g.D.Depot.files c.args.depot.now) c.args.name.now size (c.args.pos + count) c.feed.new.self)
+    c.read_at.auto.into
+    (front_on n size c.args.pos (g.D.Depot.files c.args.depot.now) c.args.name.now c.read_at.new.into c.args.reader.now c.feed.new.self
+    c.in-Ok.ensures.bytes c.in-Ok-feed.ensures.reads front)
+
+pub returns-in-Err-feed-clause-err : goal.returns-in-Err-feed-clause-err
+returns-in-Err-feed-clause-err g c n size front within =
     rw c.failure_of.ensures
-    (refused_at_piece n size c.args.pos (g.D.Depot.files c.args.depot.now) c.args.name.now c.read_at.new.into
-    (g.D.Depot.calm c.args.depot.now) (g.D.Depot.faults c.args.depot.now) (g.D.Depot.faults c.read_at.new.self)
-    c.in-Err.refusal c.args.reader.now c.in-Ok.ensures.bytes c.in-Err.ensures.decides front)
+    (refused_at_piece n size c.args.pos c.args.name.now c.read_at.new.into (depot_change g.D.Depot c.args.depot.now c.read_at.new.self)
+    c.in-Err-feed.error c.args.reader.now c.in-Ok.ensures.bytes c.in-Err-feed.ensures.decides front)

@@ -1,8 +1,13 @@
-use Rattle.std.proofs.Common.{◌∙◌}
-use Rattle.gm_top.proofs.RoundLemmas.{round-from_pass}
+use Rattle.std.proofs.Common.{ap, ◌∙◌}
+use Rattle.gm_base.specs.Runs.{joined_at}
+use Rattle.gm_top.proofs.RoundLemmas.{carried_at}
 use Rattle.gm_top.proofs.rounds.make_round.Goals as goal
 
 pub returns : goal.returns
 returns g c =
-    round-from_pass (g.K.Kernel.functions c.args.kernel.now) c.args.edges.now c.args.values.now c.carry.new.sums c.pass_edges.new.sums _
-    c.requires.degrees c.carry.ensures (c.pass_edges.ensures.length ∙ c.carry.auto.sums ∙ c.requires.sum_count) c.pass_edges.ensures.joined
+    let kernel = g.K.Kernel.functions c.args.kernel.now in
+    let edges = c.args.edges.now in
+    let values = c.args.values.now in
+    c.sums_are_the_round.ensures kernel _ edges values _ c.requires.degrees
+    (c.pass_edges.ensures.length ∙ c.carry.auto.sums ∙ c.requires.sum_count)
+    (λ v within. c.pass_edges.ensures.joined v ∙ ap (joined_at kernel _ values edges v) (carried_at kernel values _ v c.carry.ensures within))

@@ -1,4 +1,4 @@
-use Rattle.std.proofs.Common.{◌≡◌, ◌+◌, ◌-◌, ℕ, true, false, Option, Some, ap, sym, ◌∙◌, subst, arith}
+use Rattle.std.proofs.Common.{◌≡◌, ◌+◌, ◌-◌, ℕ, true, false, Some, ap, sym, ◌∙◌, subst, arith}
 use Rattle.std.specs.List.{range_with_len, find}
 use Rattle.gm_base.specs.Graph.{IsGraph}
 use Rattle.gm_base.specs.Runs.{values_after, settled_run, outcome_at, is_settled_by, round_of}
@@ -14,7 +14,7 @@ loop-done-init g c =
       after = c.in_ok-values.ensures.values;
       rest = ap (λ (count : ℕ). find (is_settled_by (g.K.Kernel.functions c.args.kernel.now) c.args.n c.args.edges.now) (range_with_len 1 count)) all;
       all_values = c.in_ok-values.ensures.count;
-      all_sums = c.in_ok-sums.ensures;
+      all_sums = c.in_ok-sums.ensures.len;
     }
 
 pub advance-requires-clause-graph : goal.advance-requires-clause-graph
@@ -23,7 +23,7 @@ advance-requires-clause-graph g c =
 
 pub advance-requires-clause-degree_count : goal.advance-requires-clause-degree_count
 advance-requires-clause-degree_count g c =
-    c.deref.ensures.len ∙ c.in_ok-degrees.ensures.count ∙ sym c.loop-done.invariant.all_values
+    c.deref.ensures.len ∙ c.in_ok-degrees.ensures.len ∙ sym c.loop-done.invariant.all_values
 
 pub advance-requires-clause-sum_count : goal.advance-requires-clause-sum_count
 advance-requires-clause-sum_count g c = c.loop-done.invariant.all_sums ∙ sym c.loop-done.invariant.all_values

@@ -1,0 +1,4 @@
+pub mod Words
+pub mod Failures
+pub mod StandardError
+pub mod Endings

@@ -1,0 +1,124 @@
+//! Why a command ends without its whole output.
+
+ghost use Rattle.std.specs.Prelude.{◌≡◌};
+ghost use Rattle.gm_commands.specs.Failures.{refused_operand, refusal_status};
+ghost use Rattle.gm_commands.specs.declared.failure.Failure.TheVariants.{OutOfMemory};
+
+use crate::operand::Operand;
+use gm_outside::Trouble;
+use std::alloc::AllocError;
+
+/// Why a file of a command is refused. Lines of an edge list are counted from 1.
+#[derive(Clone, Copy, Debug, PartialEq, Eq)]
+pub enum Refusal {
+    /// There is no such file.
+    NoSuchFile(Operand),
+    /// The grid's file is no grid.
+    BadGrid,
+    /// The line is none of the forms of an edge list.
+    NotAnEdge { line: u64 },
+    /// An end of the line's edge is no vertex.
+    NoSuchVertex { line: u64 },
+    /// The line's edge is one more than 2^24.
+    EdgeTooMany { line: u64 },
+    /// The jobs' file has a form that isn't built yet.
+    NotBuiltYet,
+}
+
+impl Refusal {
+    ghost use Rattle.std.specs.Prelude.{◌≡◌};
+    ghost use Rattle.gm_commands.specs.Failures.{refused_operand, refusal_status};
+
+    /// The program's status after it.
+    fn status(self) -> u8
+        ensures { result ≡ refusal_status self }
+    {
+        match self {
+            Refusal::NoSuchFile(_) => 3,
+            Refusal::BadGrid => 4,
+            Refusal::NotAnEdge { .. } => 4,
+            Refusal::NoSuchVertex { .. } => 4,
+            Refusal::EdgeTooMany { .. } => 4,
+            Refusal::NotBuiltYet => 5,
+        }
+    }
+
+    /// The file that is refused.
+    fn operand(self) -> Operand
+        ensures { result ≡ refused_operand self }
+    {
+        match self {
+            Refusal::NoSuchFile(operand) => operand,
+            Refusal::BadGrid => Operand::Grid,
+            Refusal::NotAnEdge { .. } => Operand::Edges,
+            Refusal::NoSuchVertex { .. } => Operand::Edges,
+            Refusal::EdgeTooMany { .. } => Operand::Edges,
+            Refusal::NotBuiltYet => Operand::Jobs,
+        }
+    }
+}
+
+/// Why a command ends without its whole output.
+#[derive(Clone, Copy, Debug, PartialEq, Eq)]
+pub enum Failure {
+    /// A file is refused.
+    Refused(Refusal),
+    /// The depot failed at a file that is read.
+    ReadFailed(Operand),
+    /// The depot failed at a file that is written.
+    WriteFailed(Operand),
+    /// Standard output failed.
+    OutputFailed,
+    /// There was no memory.
+    OutOfMemory,
+}
+
+impl From<AllocError> for Failure {
+    ghost from_gives = { λ _ failure. failure ≡ OutOfMemory };
+
+    fn from(_error: AllocError) -> Failure {
+        Failure::OutOfMemory
+    }
+}
+
+impl Failure {
+    ghost use Rattle.std.specs.Prelude.{◌≡◌};
+    ghost use Rattle.gm_outside.specs.declared.traits.Trouble.TheVariants.{Memory};
+    ghost use Rattle.gm_commands.specs.Failures.{status_of, operand_of, failed_by};
+
+    /// The program's status after it.
+    pub fn status(self) -> u8
+        ensures { result ≡ status_of self }
+    {
+        match self {
+            Failure::Refused(refusal) => refusal.status(),
+            Failure::ReadFailed(_) => 6,
+            Failure::WriteFailed(_) => 6,
+            Failure::OutputFailed => 7,
+            Failure::OutOfMemory => 8,
+        }
+    }
+
+    /// The file that its line names, if it names one.
+    pub fn operand(self) -> Option<Operand>
+        ensures { result ≡ operand_of self }
+    {
+        match self {
+            Failure::Refused(refusal) => Some(refusal.operand()),
+            Failure::ReadFailed(operand) => Some(operand),
+            Failure::WriteFailed(operand) => Some(operand),
+            Failure::OutputFailed => None,
+            Failure::OutOfMemory => None,
+        }
+    }
+
+    /// What it is that a call gave up: itself, or want of memory.
+    pub fn by(self, trouble: Trouble) -> Failure
+        ensures { result ≡ failed_by self trouble }
+    {
+        match trouble {
+            Trouble::Failed => self,
+            Trouble::Memory => Failure::OutOfMemory,
+        }
+    }
+}
