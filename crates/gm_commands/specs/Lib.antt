@@ -2,3 +2,4 @@ pub mod Words
 pub mod Failures
 pub mod StandardError
 pub mod Endings
+pub mod FileSizes

@@ -7,6 +7,7 @@ mod failure;
 mod failure_text;
 mod operand;
 mod run_words;
+mod sizes;
 mod standard_error;
 mod words;
 
@@ -15,4 +16,5 @@ pub use examples::{error_lines, words_of_a_build, words_of_a_run};
 pub use failure::{Failure, Refusal};
 pub use operand::{Operand, Operands};
 pub use run_words::{RunCommand, run_command};
+pub use sizes::file_size;
 pub use standard_error::{say, say_usage};

@@ -1,6 +1,6 @@
 -- What a reader has read of a file, and what follows of its answers.
 use Rattle.std.proofs.Common.{◌≡◌, ℕ, ◌+◌, ◌≤◌, List, ◌++◌, length, take, drop, Option, Some, None, Ok, Err, IfSome, refl, sym, ap, subst, ◌∙◌, append_assoc, []}
-use Rattle.std.specs.Prelude.{IsSomeAnd}
+use Rattle.std.specs.Prelude.{IsSomeAnd, is_none, if◌then◌else◌}
 use Rattle.std.specs.Option.{option_map}
 use Rattle.std.specs.FinMap.{get}
 use Rattle.std.proofs.lemmas.List.{take-append-drop}
@@ -12,9 +12,13 @@ use Rattle.gm_edges.specs.declared.error.EdgeError.TheVariants.{BadLine, NoVerte
 use Rattle.gm_edges.specs.EdgeText.{edge_list_of}
 use Rattle.gm_edges.specs.Scanner.{ReaderState, HasRead, IsUnlessMemory}
 use Rattle.gm_commands.specs.declared.operand.Operand.TheVariants.{Edges}
+use Rattle.gm_commands.specs.declared.failure.Refusal.{Refusal}
 use Rattle.gm_commands.specs.declared.failure.Refusal.TheVariants.{NoSuchFile}
+use Rattle.gm_commands.specs.declared.failure.Failure.{Failure}
+use Rattle.gm_commands.specs.declared.failure.Failure.TheVariants.{Refused, ReadFailed, WriteFailed, OutputFailed, OutOfMemory}
 use Rattle.gm_commands.specs.Endings.{DepotChange, AreTaken}
-use Rattle.gm_tools.specs.EdgeFiles.{failure_of, refusal_in, text_refusal, edges_refusal, EndsReading}
+use Rattle.gm_commands.specs.FileSizes.{missing, HasNoSize}
+use Rattle.gm_tools.specs.EdgeFiles.{failure_of, refusal_in, text_refusal, edges_refusal, IsEdgesRefusal, EndsReading}
 use Rattle.gm_tools.specs.Readings.{ListsEdges, IsFront, HasReadFront}
 
 -- nothing is read of a file of this size
@@ -162,19 +166,27 @@ refused_at_end n size name depot refusal reader answers front =
     refused_as n name depot refusal
     (refuses n front.text depot.files name refusal (whole_in size front.text depot.files name front.front) (answers n front.text front.read))
 
--- a file without a size is missing
-missing_of : (n : ℕ) (found : Option (List ℕ)) → None ≡ option_map length found → text_refusal n found ≡ Some (NoSuchFile Edges)
-missing_of n None e = refl
-missing_of n (Some bytes) e = cc
+-- a file that isn't there lists no edges
+absent_of : (n : ℕ) (found : Option (List ℕ)) (refusal : Refusal)
+    → (if is_none found then Some (NoSuchFile Edges) else None) ≡ Some refusal → text_refusal n found ≡ Some refusal
+absent_of n None refusal e = e
+absent_of n (Some bytes) refusal e = cc
 
-missing_in : (n : ℕ) (name : List ℕ) (held : Files) → None ≡ size_of held name → edges_refusal n name held ≡ Some (NoSuchFile Edges)
+absent_in : (n : ℕ) (name : List ℕ) (files : Option Files) (refusal : Refusal)
+    → IfSome files (λ held. missing Edges name held ≡ Some refusal) → IfSome files (λ held. edges_refusal n name held ≡ Some refusal)
 unfolding edges_refusal
-missing_in n name held e = missing_of n (get held name) e
+absent_in n name None refusal e = tt
+absent_in n name (Some held) refusal e = absent_of n (get held name) refusal e
 
-pub refused_where_missing : (n : ℕ) (files : Option Files) (name : List ℕ) → IfSome files (λ held. None ≡ size_of held name)
-    → IfSome files (λ held. edges_refusal n name held ≡ Some (NoSuchFile Edges))
-refused_where_missing n None name sized = tt
-refused_where_missing n (Some held) name sized = missing_in n name held sized
+-- what ends the question for the size of the file of edges ends its reading
+pub ends_without_size : (n : ℕ) (name : List ℕ) (depot : DepotChange) (failure : Failure)
+    → HasNoSize Edges name depot failure → EndsReading n name depot failure
+ends_without_size n name depot (Refused refusal) ended =
+    (subst IsEdgesRefusal (sym ended.0) refl, absent_in n name depot.files refusal ended.1)
+ends_without_size n name depot (ReadFailed operand) ended = ended
+ends_without_size n name depot (WriteFailed operand) ended = ended
+ends_without_size n name depot OutputFailed ended = ended
+ends_without_size n name depot OutOfMemory ended = ended
 
 taken_of : (n : ℕ) (name : List ℕ) (held : Files) (edges : List Edge) → ListsEdges held name n edges → edges_refusal n name held ≡ None
 unfolding edges_refusal

@@ -8,7 +8,7 @@ ghost use Rattle.gm_tools.specs.EdgeFiles.{edges_refusal, failure_of, EndsReadin
 ghost use Rattle.gm_tools.specs.Readings.{ListsEdges, HasReadFront};
 
 use gm_base::Edges;
-use gm_commands::{Failure, Operand, Refusal};
+use gm_commands::{Failure, Operand, Refusal, file_size};
 use gm_edges::{EdgeError, EdgeReader};
 use gm_outside::Depot;
 use std::alloc::{AllocError, Global};
@@ -89,22 +89,6 @@ fn read_text<D: Depot>(
     Ok(reader)
 }
 
-/// The length of the file of edges.
-fn size_of_edges<D: Depot>(depot: &mut D, name: &str) -> Result<u64, Failure>
-    ensures size { IfSome (D.files depot.old) (λ files. IfOk result (λ size. Some size ≡ size_of files name.now)) }
-    ensures err { (n : ℕ) → IfErr result (EndsReading n name.now (depot_change ⟦<D as Depot>⟧ depot.old depot.new)) }
-    ensures later { D.faults depot.old ≤ D.faults depot.new }
-    ensures files_kept { D.files depot.new ≡ D.files depot.old }
-    ensures calm_kept { D.calm depot.new ≡ D.calm depot.old }
-    ensures write_faults_kept { D.write_faults depot.new ≡ D.write_faults depot.old }
-{
-    match depot.size(name) {
-        Ok(Some(size)) => Ok(size),
-        Ok(None) => Err(Failure::Refused(Refusal::NoSuchFile(Operand::Edges))),
-        Err(trouble) => Err(READ_FAILED.by(trouble)),
-    }
-}
-
 /// The edges that the text of a file lists, for a graph of n vertices.
 pub(crate) fn read_edges<D: Depot>(
     alloc: Global,
@@ -124,7 +108,7 @@ pub(crate) fn read_edges<D: Depot>(
     ensures calm_kept { D.calm depot.new ≡ D.calm depot.old }
     ensures write_faults_kept { D.write_faults depot.new ≡ D.write_faults depot.old }
 {
-    let size = size_of_edges(depot, name)?;
+    let size = file_size(depot, name, Operand::Edges)?;
     let mut buffer = zeros(alloc, PIECE)?;
     let reader = read_text(alloc, depot, name, size, n, &mut buffer)?;
     match reader.finish() {

@@ -27,10 +27,6 @@ grid_and_jobs_refusal (Some bytes) jobs =
 unfoldable pub first_refusal : RunCommand → Files → Option Refusal
 first_refusal command files = grid_and_jobs_refusal (get files command.grid) (get files command.jobs)
 
--- why a file is refused that isn't there
-abbrev pub missing : Operand → List ℕ → Files → Option Refusal
-missing operand name files = if is_none (get files name) then Some (NoSuchFile operand) else None
-
 -- the files that a run reads
 abbrev pub IsRead : Operand → Type 0
 IsRead Edges = ⊥

@@ -10,37 +10,20 @@ ghost use Rattle.gm_commands.specs.Words.{run_said};
 ghost use Rattle.gm_commands.specs.StandardError.{sink_change};
 ghost use Rattle.gm_commands.specs.Endings.{depot_change, AreTaken, EndsBy};
 ghost use Rattle.gm_report.specs.Report.{report_text};
-ghost use Rattle.gm_top.specs.Refusals.{jobs_refusal, first_refusal, missing, IsRead, EndsReading};
+ghost use Rattle.gm_top.specs.Refusals.{jobs_refusal, first_refusal, IsRead, EndsReading};
 ghost use Rattle.gm_top.specs.Reports.{AreLinesOf, Reports, is_failed, status_after};
 ghost use Rattle.gm_top.specs.Endings.{Leaves};
 ghost use Rattle.gm_top.specs.Loads.{HoldsGrid, TellsJob};
 
 use crate::rounds::lone_run;
 use gm_base::{JobLine, Memory, Outcome};
-use gm_commands::{Failure, Operand, Refusal, RunCommand};
+use gm_commands::{Failure, Operand, Refusal, RunCommand, file_size};
 use gm_grid::{Grid, ReadError, read_grid};
 use gm_jobs::{Job, MOST_BYTES, long_text_states_no_job, read_job};
 use gm_outside::{Depot, Sink, read_whole};
 use gm_report::write;
 use std::alloc::Global;
 use std::slice;
-
-/// The length of a file that a run reads.
-fn file_size<D: Depot>(depot: &mut D, name: &str, operand: Operand) -> Result<u64, Failure>
-    requires { IsRead operand }
-    ensures size { IfSome (D.files depot.old) (λ files. IfOk result (λ size. Some size ≡ size_of files name.now)) }
-    ensures err { IfErr result (EndsReading (missing operand name.now) (depot_change ⟦<D as Depot>⟧ depot.old depot.new)) }
-    ensures later { D.faults depot.old ≤ D.faults depot.new }
-    ensures files_kept { D.files depot.new ≡ D.files depot.old }
-    ensures calm_kept { D.calm depot.new ≡ D.calm depot.old }
-    ensures write_faults_kept { D.write_faults depot.new ≡ D.write_faults depot.old }
-{
-    match depot.size(name) {
-        Ok(Some(size)) => Ok(size),
-        Ok(None) => Err(Failure::Refused(Refusal::NoSuchFile(operand))),
-        Err(trouble) => Err(Failure::ReadFailed(operand).by(trouble)),
-    }
-}
 
 /// What a file holds that has this length.
 fn file_bytes<D: Depot>(
