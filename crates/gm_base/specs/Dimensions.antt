@@ -1,22 +1,23 @@
 -- The size of a grid: how many vertices it has, and into how many ranges they are cut.
-use Rattle.std.specs.Prelude.{ℕ, ◌+◌, ◌-◌, ◌*◌, ◌/◌, ◌^◌, ◌≤◌, Bool, ◌&&◌, nat_le}
+use Rattle.std.specs.Prelude.{ℕ, ◌+◌, ◌-◌, ◌*◌, ◌/◌, ◌≤◌, Bool, ◌&&◌, nat_le}
 use Rattle.gm_base.specs.declared.edge.Edge.{Edge}
+use Rattle.gm_base.specs.declared.limits.TheConstants.{MAX_VERTICES, MAX_PARTS}
 
 pub record Dimensions : Type 0 where
   pub n : ℕ
   pub parts : ℕ
 
--- 1 to 2^20 vertices, 1 to 64 ranges, and no more ranges than vertices
+-- some vertices and ranges, not too many of either, and no more ranges than vertices
 pub record AreDimensions (n parts : ℕ) : Type 0 where
   pub some_vertex : 1 ≤ n
-  pub vertices : n ≤ 2 ^ 20
+  pub vertices : n ≤ MAX_VERTICES
   pub some_range : 1 ≤ parts
-  pub ranges : parts ≤ 64
+  pub ranges : parts ≤ MAX_PARTS
   pub no_more_ranges : parts ≤ n
 
 -- the same as a test
 abbrev pub are_dimensions : ℕ → ℕ → Bool
-are_dimensions n parts = nat_le 1 n && nat_le n (2 ^ 20) && nat_le 1 parts && nat_le parts 64 && nat_le parts n
+are_dimensions n parts = nat_le 1 n && nat_le n MAX_VERTICES && nat_le 1 parts && nat_le parts MAX_PARTS && nat_le parts n
 
 -- how many vertices a range has: n / parts, rounded up. Ranges at the end may be shorter or empty
 abbrev pub width_of : Dimensions → ℕ

@@ -1,5 +1,5 @@
 -- Graphs as lists of edges, GridGraph's edge list: a number of vertices and the edges, each as often as it stands there.
-use Rattle.std.specs.Prelude.{◌≡◌, ℕ, ◌<◌, ◌^◌, Bool, ◌&&◌, ◌==◌, List, All, count_by}
+use Rattle.std.specs.Prelude.{◌≡◌, ℕ, ◌<◌, Bool, ◌&&◌, ◌==◌, List, All, count_by}
 use Rattle.gm_base.specs.declared.edge.Edge.{Edge}
 
 -- an edge by its source, its destination and its weight
@@ -20,10 +20,6 @@ HasEndsBelow n e = (e.from < n) × (e.to < n)
 -- a graph of n vertices
 abbrev pub IsGraph : ℕ → List Edge → Type 0
 IsGraph n edges = All (HasEndsBelow n) edges
-
--- the greatest number of edges
-abbrev pub most_edges : ℕ
-most_edges = 2 ^ 24
 
 -- how many edges leave a vertex
 abbrev pub out_degree : List Edge → ℕ → ℕ

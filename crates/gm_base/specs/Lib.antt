@@ -1,8 +1,7 @@
 pub mod Graph
+pub mod GraphRules
 pub mod Dimensions
-pub mod Kernels
-pub mod Runs
+pub mod DimensionsRules
 pub mod Numbers
 pub mod Names
-pub mod Texts
 pub mod Examples

@@ -1,10 +1,28 @@
-//! Lists that contracts see as lists.
+//! Lists that contracts see as lists, and want of memory.
 
-ghost use Rattle.std.specs.Prelude.{◌≡◌, ◌+◌, ◌≤◌, ◌<◌, [], ◌∷◌, ◌++◌, length, IfOk, OnOk, OnErr};
+ghost use Rattle.std.specs.Prelude.{◌≡◌, ◌==◌, [], ◌∷◌, ◌++◌, length, OnOk, OnErr};
+ghost use Rattle.std.specs.Slice.Iter.{iter_rest};
 
-use crate::{Edge, JobLine, Memory};
-use std::alloc::Global;
+use crate::{Edge, JobLine};
+use std::alloc::{AllocError, AllocFailed, Global};
 use std::marker::Model;
+use std::slice::Iter;
+
+/// An allocation was refused. It is the one answer that no contract ties to a cause.
+#[derive(Clone, Copy, Debug, PartialEq, Eq)]
+pub struct Memory;
+
+impl From<AllocError> for Memory {
+    fn from(_error: AllocError) -> Memory {
+        Memory
+    }
+}
+
+impl<T: Drop> From<AllocFailed<T>> for Memory {
+    fn from(_error: AllocFailed<T>) -> Memory {
+        Memory
+    }
+}
 
 /// A list in memory.
 #[derive(Drop)]
@@ -67,10 +85,31 @@ impl<T> Items<T> {
         Ok(())
     }
 
+    /// How many items there are.
+    pub fn len(&self) -> usize
+        ensures { result ≡ length self.now }
+    {
+        self.items.len()
+    }
+
+    /// Whether there are none.
+    pub fn is_empty(&self) -> bool
+        ensures { result ≡ (length self.now == 0) }
+    {
+        self.items.is_empty()
+    }
+
     /// The items, by their place.
     pub fn as_slice(&self) -> &[T]
         ensures { result.now ≡ self.now }
     {
         self.items.as_slice()
+    }
+
+    /// The items, one after the other.
+    pub fn iter(&self) -> Iter<'_, T>
+        ensures { iter_rest result ≡ self.now }
+    {
+        self.items.iter()
     }
 }

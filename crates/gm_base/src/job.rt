@@ -15,6 +15,17 @@ pub enum Spec {
     Rank { rounds: u32 },
 }
 
+/// What a job is after a round: whether it goes on.
+#[derive(Clone, Copy, Debug, PartialEq, Eq)]
+pub enum Turned {
+    /// It goes on, and needs a chunk in its next round.
+    Owes,
+    /// It is done after so many rounds.
+    Done { rounds: u32 },
+    /// It hadn't settled after as many rounds as its bound allows.
+    Bound { bound: u32 },
+}
+
 /// What became of a job.
 #[derive(Drop)]
 pub enum Outcome {

@@ -5,6 +5,7 @@ ghost use Rattle.std.specs.Result.{IsErrOf};
 ghost use Rattle.std.specs.List.{list_all};
 ghost use Rattle.gm_base.specs.Names.{is_name, is_name_byte};
 
+use crate::MAX_NAME_BYTES;
 use std::alloc::Global;
 use std::marker::Model;
 
@@ -52,7 +53,7 @@ fn are_name_bytes(text: &[u8]) -> bool
 fn is_name(text: &[u8]) -> bool
     ensures { result ≡ is_name text.now }
 {
-    1 <= text.len() && text.len() <= 32 && are_name_bytes(text)
+    1 <= text.len() && text.len() <= MAX_NAME_BYTES && are_name_bytes(text)
 }
 
 impl Name {
@@ -74,7 +75,7 @@ impl Name {
     pub fn as_slice(&self) -> &[u8]
         ensures text { result.now ≡ self.now }
         ensures name { IsTrue (is_name self.now) }
-        ensures short { length self.now ≤ 32 }
+        ensures short { length self.now ≤ MAX_NAME_BYTES }
     {
         self.bytes.as_slice()
     }

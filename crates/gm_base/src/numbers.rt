@@ -6,6 +6,7 @@ ghost use Rattle.std.specs.Char.{is_ascii_digit};
 ghost use Rattle.std.specs.Str.Parse.{digits_value};
 ghost use Rattle.gm_base.specs.Numbers.{is_numeral, number_of};
 
+use crate::MAX_DIGITS;
 use itoa::Buffer;
 
 fn are_digits(text: &[u8]) -> bool
@@ -18,7 +19,7 @@ fn are_digits(text: &[u8]) -> bool
 fn is_numeral(text: &[u8]) -> bool
     ensures { result ≡ is_numeral text.now }
 {
-    1 <= text.len() && text.len() <= 20 && are_digits(text)
+    1 <= text.len() && text.len() <= MAX_DIGITS && are_digits(text)
 }
 
 /// The number that at most 20 digits write.
@@ -51,7 +52,7 @@ pub fn number(text: &[u8], most: u64) -> Option<u64>
 /// Writes the decimal digits of the value, without leading zeros, to the front of `into`, and answers how many there are.
 pub fn digits(value: u128, into: &mut [u8; 39]) -> usize
     ensures count { result ≡ length (decimal value) }
-    ensures short { value < 2 ^ 64 → result ≤ 20 }
+    ensures short { value < 2 ^ 64 → result ≤ MAX_DIGITS }
     ensures front { into.new ≡ decimal value ++ drop (length (decimal value)) into.old }
 {
     let mut buffer = Buffer::new();

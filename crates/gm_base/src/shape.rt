@@ -2,14 +2,8 @@
 
 ghost use Rattle.std.specs.Prelude.{◌≡◌, ◌+◌, ◌*◌, ◌<◌, ◌≤◌, IfSome, IfNone};
 
-use crate::Edge;
+use crate::{Edge, MAX_PARTS, MAX_VERTICES};
 use std::marker::Model;
-
-/// The greatest number of vertices, 2^20.
-pub const MOST_VERTICES: u32 = 1_048_576;
-
-/// The greatest number of ranges.
-pub const MOST_PARTS: u32 = 64;
 
 /// The number of vertices of a grid, 1 to 2^20, and into how many ranges they are cut, 1 to 64 and at most as many as there
 /// are vertices. GridGraph's grid has parts * parts blocks.
@@ -40,7 +34,7 @@ impl Shape {
         ensures some { IfSome result (λ shape. AreDimensions n parts × (shape.n ≡ n) × (shape.parts ≡ parts)) }
         ensures none { IfNone result (AreDimensions n parts → ⊥) }
     {
-        let fits = 1 <= n && n <= MOST_VERTICES && 1 <= parts && parts <= MOST_PARTS && parts <= n;
+        let fits = 1 <= n && n <= MAX_VERTICES && 1 <= parts && parts <= MAX_PARTS && parts <= n;
         if fits { Some(Shape { n, parts }) } else { None }
     }
 

@@ -1,6 +1,9 @@
 //! What no clause says: that calls succeed with ample memory, and numbers as people write them.
 
-use crate::{Name, NameError, Results, Sources, TOP, Values, Words, digits, number};
+use crate::{
+    ChunkCopy, Edges, Key, Name, NameError, Results, Sources, TOP, Tag, Values, Words, digits,
+    number,
+};
 use std::test::Fail;
 
 #[test]
@@ -9,13 +12,15 @@ fn lists_take_what_is_pushed(rt: HostRuntime) -> Result<(), Fail> {
     values.push(7)?;
     values.push(TOP)?;
     assert_eq!(rt; values.as_slice(), [7, TOP].as_slice());
+    assert_eq!(rt; values.len(), 2);
+    assert_eq!(rt; values.iter().copied().max(), Some(TOP));
     let again = Values::from_vec(values.into_vec());
     assert_eq!(rt; again.as_slice(), [7, TOP].as_slice());
     let mut sources = Sources::new(rt.alloc());
     sources.push(3)?;
     assert_eq!(rt; sources.as_slice(), [3].as_slice());
     let results = Results::new(rt.alloc());
-    assert_eq!(rt; results.as_slice().len(), 0);
+    assert!(rt; results.is_empty());
     Ok(())
 }
 
@@ -28,6 +33,7 @@ fn words_take_what_is_pushed(rt: HostRuntime) -> Result<(), Fail> {
     assert_eq!(rt; words.len(), 2);
     assert_eq!(rt; words.get(0), "run");
     assert_eq!(rt; words.get(1), "");
+    assert_eq!(rt; words.as_slice().len(), 2);
     Ok(())
 }
 
@@ -70,4 +76,17 @@ fn numbers_are_read_and_written(rt: HostRuntime) {
     assert_eq!(rt; digits(1_048_576, &mut into), 7);
     let front = &into[..8];
     assert_eq!(rt; front, b"1048576x".as_slice());
+}
+
+fn crosses_threads<T: Send + Sync + Drop>(_value: T) {}
+
+#[test]
+fn a_copy_may_be_shared(rt: HostRuntime) {
+    let key = Key {
+        chunk: 3,
+        tag: Tag::Own(2),
+    };
+    let edges = Edges::new(rt.alloc());
+    assert!(rt; edges.is_empty());
+    crosses_threads(ChunkCopy { key, edges });
 }

@@ -1,6 +1,6 @@
 //! The words of a command.
 
-ghost use Rattle.std.specs.Prelude.{◌≡◌, ◌<◌, ◌==◌, [], ◌∷◌, ◌++◌, length, slice_get, Some, OnOk, OnErr};
+ghost use Rattle.std.specs.Prelude.{◌≡◌, ◌<◌, ◌==◌, [], ◌∷◌, ◌++◌, length, map, slice_get, string_bytes, Some, OnOk, OnErr};
 
 use crate::Memory;
 use std::alloc::Global;
@@ -54,6 +54,13 @@ impl Words {
         ensures { result ≡ (length self.now == 0) }
     {
         self.words.is_empty()
+    }
+
+    /// The words, in their order.
+    pub fn as_slice(&self) -> &[String]
+        ensures { map string_bytes result.now ≡ self.now }
+    {
+        self.words.as_slice()
     }
 
     /// The word at i, counted from 0.

@@ -5,10 +5,11 @@ use Rattle.std.proofs.lemmas.Bool.{cases_lt, and_from, lt-ltb}
 use Rattle.std.proofs.lemmas.List.{get_or_past}
 use Rattle.std.proofs.lemmas.List.Elements.{All-nil, All-filter, All-same, filter_passes}
 use Rattle.std.proofs.lemmas.List.FromFn.{get_or-map-range_with_len, length-map-range_with_len}
+use Rattle.gm_base.specs.declared.limits.TheConstants.{MAX_EDGES}
 use Rattle.gm_base.specs.declared.edge.Edge.{Edge}
 use Rattle.gm_base.specs.Dimensions.{Dimensions, AreDimensions, block_of}
 use Rattle.gm_base.specs.Graph.{HasEndsBelow, IsGraph, IsSameGraph, is_same_edge}
-use Rattle.gm_grid.specs.Format.{edges_of_grid, FitsBlock, IsGrid, most_edges}
+use Rattle.gm_grid.specs.Format.{edges_of_grid, FitsBlock, IsGrid}
 use Rattle.gm_build.specs.Blocks.{block_edges, blocks_from, built_file}
 use Rattle.gm_build.proofs.Below.{blocks_below}
 use Rattle.gm_build.proofs.Groups.{flat_map-map, counted_all, length-joined_groups, joined_groups}
@@ -34,7 +35,7 @@ fits d edges block graph small k e within =
     }
 
 pub IsGrid-built_file : (d : Dimensions) (edges : List Edge) → AreDimensions d.n d.parts → IsGraph d.n edges → All (λ e. e.weight < 2 ^ 32) edges
-    → length edges ≤ most_edges → IsGrid (built_file d edges) d.n d.parts (blocks_from d edges)
+    → length edges ≤ MAX_EDGES → IsGrid (built_file d edges) d.n d.parts (blocks_from d edges)
 unfolding built_file
 IsGrid-built_file d edges dims graph small few =
     let blocks = d.parts * d.parts in

@@ -4,7 +4,8 @@ use Rattle.std.specs.Option.{IsSome, IfSome, is_some}
 use Rattle.std.specs.FinMap.{get, insert}
 use Rattle.std.proofs.lemmas.Bool.{false≢true}
 use Rattle.gm_outside.specs.Files.{Files}
-use Rattle.gm_outside.specs.Changes.{with_file, with_file-told, get-insert_same}
+use Rattle.gm_outside.specs.Changes.{with_file}
+use Rattle.gm_outside.specs.ChangesRules.{with_file-told, get-insert_same}
 
 pub there_now : (old new : Option Files) (name bytes : List ℕ) (P : Type 0) → new ≡ with_file old name bytes → IsSome old
     → IfSome new (λ held. IsSome (get held name) → P) → P

@@ -2,15 +2,12 @@
 #![tactic(auto)]
 
 mod blocks;
-mod building;
-mod examples;
-mod file;
-mod laws;
+pub mod examples;
+mod grid_file;
+pub mod laws;
 mod places;
 
-pub use building::build;
-pub use examples::file_of_a_way;
-pub use laws::{built_file_is_a_grid, same_graph_in_the_file};
+pub use grid_file::build;
 
 #[cfg(test)]
 mod tests;

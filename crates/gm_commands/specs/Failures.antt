@@ -1,20 +1,22 @@
 -- Why a command ends without its whole output: its status, and its line on standard error.
-use Rattle.std.specs.Prelude.{ℕ, List, [], ◌++◌, codes, decimal, Option, Some, None}
+use Rattle.std.specs.Prelude.{ℕ, List, ◌++◌, codes, decimal, Option, Some, None}
 use Rattle.gm_outside.specs.declared.traits.Trouble.{Trouble}
 use Rattle.gm_outside.specs.declared.traits.Trouble.TheVariants.{Failed, Memory}
-use Rattle.gm_commands.specs.declared.operand.Operand.{Operand}
-use Rattle.gm_commands.specs.declared.operand.Operand.TheVariants.{Edges, Grid, Jobs}
+use Rattle.gm_edges.specs.declared.edge_error.EdgeListRefusal.{EdgeListRefusal}
+use Rattle.gm_edges.specs.declared.edge_error.EdgeListRefusal.TheVariants as edge_list
+use Rattle.gm_grid.specs.declared.grid_error.GridError.{GridError}
+use Rattle.gm_grid.specs.declared.grid_error.GridError.TheVariants as grid
+use Rattle.gm_commands.specs.declared.failure.Operand.{Operand}
+use Rattle.gm_commands.specs.declared.failure.Operand.TheVariants.{Edges, Grid as TheGrid, Jobs}
 use Rattle.gm_commands.specs.declared.failure.Refusal.{Refusal}
-use Rattle.gm_commands.specs.declared.failure.Refusal.TheVariants.{NoSuchFile, BadGrid, NotAnEdge, NoSuchVertex, EdgeTooMany, NotBuiltYet}
+use Rattle.gm_commands.specs.declared.failure.Refusal.TheVariants.{Missing, Grid, EdgeList, NotBuiltYet}
 use Rattle.gm_commands.specs.declared.failure.Failure.{Failure}
 use Rattle.gm_commands.specs.declared.failure.Failure.TheVariants.{Refused, ReadFailed, WriteFailed, OutputFailed, OutOfMemory}
 
 abbrev pub refusal_status : Refusal → ℕ
-refusal_status (NoSuchFile operand) = 3
-refusal_status BadGrid = 4
-refusal_status (NotAnEdge line) = 4
-refusal_status (NoSuchVertex line) = 4
-refusal_status (EdgeTooMany line) = 4
+refusal_status (Missing operand) = 3
+refusal_status (Grid error) = 4
+refusal_status (EdgeList refusal) = 4
 refusal_status NotBuiltYet = 5
 
 abbrev pub status_of : Failure → ℕ
@@ -31,11 +33,9 @@ failed_by failure Memory = OutOfMemory
 
 -- the file that is refused
 abbrev pub refused_operand : Refusal → Operand
-refused_operand (NoSuchFile operand) = operand
-refused_operand BadGrid = Grid
-refused_operand (NotAnEdge line) = Edges
-refused_operand (NoSuchVertex line) = Edges
-refused_operand (EdgeTooMany line) = Edges
+refused_operand (Missing operand) = operand
+refused_operand (Grid error) = TheGrid
+refused_operand (EdgeList refusal) = Edges
 refused_operand NotBuiltYet = Jobs
 
 -- the file that the line names, if it names one
@@ -46,27 +46,35 @@ operand_of (WriteFailed operand) = Some operand
 operand_of OutputFailed = None
 operand_of OutOfMemory = None
 
--- by a command's words for its files
-abbrev pub named_by : (Operand → List ℕ) → Option Operand → List ℕ
-named_by word_of (Some operand) = word_of operand
-named_by word_of None = []
+-- what is wrong with a grid
+abbrev pub grid_error_text : GridError → List ℕ
+grid_error_text grid.BadMagic = codes "bad magic"
+grid_error_text (grid.BadShape n parts) = codes "bad shape n " ++ decimal n ++ codes " parts " ++ decimal parts
+grid_error_text (grid.TooManyEdges edges) = codes "too many edges " ++ decimal edges
+grid_error_text (grid.BadSize found expected) = codes "size " ++ decimal found ++ codes ", expected " ++ decimal expected
+grid_error_text (grid.TooManyChunks chunks) = codes "too many chunks " ++ decimal chunks
+grid_error_text (grid.BadEdge index) = codes "bad edge " ++ decimal index
 
--- a line of an edge list by its number, and what is wrong with it
+-- a line by its number, and what is wrong with it
 abbrev pub line_text : ℕ → List ℕ → List ℕ
-line_text line what = codes ": line " ++ decimal line ++ what
+line_text line what = codes "line " ++ decimal line ++ codes ": " ++ what
 
-unfoldable pub refusal_text : Refusal → List ℕ
-refusal_text (NoSuchFile operand) = codes ": no such file\n"
-refusal_text BadGrid = codes ": bad grid\n"
-refusal_text (NotAnEdge line) = line_text line (codes ": not an edge\n")
-refusal_text (NoSuchVertex line) = line_text line (codes ": no such vertex\n")
-refusal_text (EdgeTooMany line) = line_text line (codes ": too many edges\n")
-refusal_text NotBuiltYet = codes ": not built yet\n"
+-- what is wrong with an edge list
+abbrev pub edge_list_text : EdgeListRefusal → List ℕ
+edge_list_text (edge_list.BadLine line) = line_text line (codes "not an edge")
+edge_list_text (edge_list.NoVertex line) = line_text line (codes "no such vertex")
+edge_list_text (edge_list.TooManyEdges line) = line_text line (codes "too many edges")
 
--- what the line says behind the name
+abbrev pub refusal_text : Refusal → List ℕ
+refusal_text (Missing operand) = codes "no such file"
+refusal_text (Grid error) = grid_error_text error
+refusal_text (EdgeList refusal) = edge_list_text refusal
+refusal_text NotBuiltYet = codes "not built yet"
+
+-- what the line says behind the names
 unfoldable pub text_of : Failure → List ℕ
 text_of (Refused refusal) = refusal_text refusal
-text_of (ReadFailed operand) = codes ": read failed\n"
-text_of (WriteFailed operand) = codes ": write failed\n"
-text_of OutputFailed = codes "output failed\n"
-text_of OutOfMemory = codes "out of memory\n"
+text_of (ReadFailed operand) = codes "read failed"
+text_of (WriteFailed operand) = codes "write failed"
+text_of OutputFailed = codes "output failed"
+text_of OutOfMemory = codes "out of memory"

@@ -1,5 +1,6 @@
-pub mod Words
+pub mod Commands
 pub mod Failures
 pub mod StandardError
+pub mod Readings
+pub mod ReadingsRules
 pub mod Endings
-pub mod FileSizes

@@ -1,44 +1,50 @@
 //! Words and lines, computed for small inputs.
-#![tactic(auto, unfolding(crate::specs::Words::run_command_of, crate::specs::Words::build_command_of, crate::specs::Failures::text_of, crate::specs::Failures::refusal_text))]
+#![tactic(auto, unfolding(crate::specs::Commands::command_of, crate::specs::Failures::text_of))]
 
 ghost use Rattle.std.specs.Prelude.{◌≡◌, [], ◌∷◌, codes, Some, None};
-ghost use Rattle.gm_commands.specs.Words.{run_command_of, build_command_of};
-ghost use Rattle.gm_commands.specs.Failures.{text_of};
+ghost use Rattle.gm_commands.specs.Commands.{command_of, run, build};
+ghost use Rattle.gm_commands.specs.StandardError.{error_line};
 
 use crate::{Failure, Operand, Refusal};
+use gm_edges::EdgeListRefusal;
+use gm_grid::GridError;
 
 /// The words of a run, and words that are none.
 pub fn words_of_a_run()
-    ensures run { run_command_of (codes "run" ∷ codes "a" ∷ codes "j" ∷ codes "1" ∷ codes "65536" ∷ [])
-        ≡ Some (record { grid = codes "a"; jobs = codes "j"; chunk = 65536 }) }
-    ensures no_workers { run_command_of (codes "run" ∷ codes "a" ∷ codes "j" ∷ codes "0" ∷ codes "1" ∷ []) ≡ None }
-    ensures short { run_command_of (codes "run" ∷ codes "a" ∷ codes "j" ∷ codes "1" ∷ []) ≡ None }
-    ensures option { run_command_of (codes "run" ∷ codes "-a" ∷ codes "j" ∷ codes "1" ∷ codes "1" ∷ []) ≡ None }
-    ensures nothing { run_command_of [] ≡ None }
+    ensures run { command_of (codes "run" ∷ codes "a" ∷ codes "j" ∷ codes "1" ∷ codes "65536" ∷ [])
+        ≡ Some (run (record { grid = codes "a"; jobs = codes "j"; chunk = 65536 })) }
+    ensures no_workers { command_of (codes "run" ∷ codes "a" ∷ codes "j" ∷ codes "0" ∷ codes "1" ∷ []) ≡ None }
+    ensures short { command_of (codes "run" ∷ codes "a" ∷ codes "j" ∷ codes "1" ∷ []) ≡ None }
+    ensures long { command_of (codes "run" ∷ codes "a" ∷ codes "j" ∷ codes "1" ∷ codes "1" ∷ codes "1" ∷ []) ≡ None }
+    ensures option { command_of (codes "run" ∷ codes "-a" ∷ codes "j" ∷ codes "1" ∷ codes "1" ∷ []) ≡ None }
+    ensures other_case { command_of (codes "ruN" ∷ codes "a" ∷ codes "j" ∷ codes "1" ∷ codes "1" ∷ []) ≡ None }
+    ensures nothing { command_of [] ≡ None }
 {}
 
 /// The words of a build, and words that are none.
 pub fn words_of_a_build()
-    ensures build { build_command_of (codes "build" ∷ codes "e" ∷ codes "a" ∷ codes "4" ∷ codes "2" ∷ [])
-        ≡ Some (record { edges = codes "e"; grid = codes "a"; shape = record { n = 4; parts = 2 } }) }
-    ensures greatest { build_command_of (codes "build" ∷ codes "e" ∷ codes "a" ∷ codes "1048576" ∷ codes "64" ∷ [])
-        ≡ Some (record { edges = codes "e"; grid = codes "a"; shape = record { n = 1048576; parts = 64 } }) }
-    ensures one_file { build_command_of (codes "build" ∷ codes "e" ∷ codes "e" ∷ codes "4" ∷ codes "2" ∷ []) ≡ None }
-    ensures more_ranges_than_vertices { build_command_of (codes "build" ∷ codes "e" ∷ codes "a" ∷ codes "1" ∷ codes "2" ∷ []) ≡ None }
-    ensures no_vertices { build_command_of (codes "build" ∷ codes "e" ∷ codes "a" ∷ codes "0" ∷ codes "0" ∷ []) ≡ None }
-    ensures too_many_vertices { build_command_of (codes "build" ∷ codes "e" ∷ codes "a" ∷ codes "1048577" ∷ codes "2" ∷ []) ≡ None }
-    ensures too_many_ranges { build_command_of (codes "build" ∷ codes "e" ∷ codes "a" ∷ codes "65" ∷ codes "65" ∷ []) ≡ None }
-    ensures option { build_command_of (codes "build" ∷ codes "-e" ∷ codes "a" ∷ codes "4" ∷ codes "2" ∷ []) ≡ None }
-    ensures empty_word { build_command_of (codes "build" ∷ codes "e" ∷ [] ∷ codes "4" ∷ codes "2" ∷ []) ≡ None }
-    ensures short { build_command_of (codes "build" ∷ codes "e" ∷ codes "a" ∷ codes "4" ∷ []) ≡ None }
-    ensures other_command { build_command_of (codes "run" ∷ codes "e" ∷ codes "a" ∷ codes "4" ∷ codes "2" ∷ []) ≡ None }
-    ensures nothing { build_command_of [] ≡ None }
+    ensures build { command_of (codes "build" ∷ codes "e" ∷ codes "a" ∷ codes "4" ∷ codes "2" ∷ [])
+        ≡ Some (build (record { edges = codes "e"; grid = codes "a"; shape = record { n = 4; parts = 2 } })) }
+    ensures greatest { command_of (codes "build" ∷ codes "e" ∷ codes "a" ∷ codes "1048576" ∷ codes "64" ∷ [])
+        ≡ Some (build (record { edges = codes "e"; grid = codes "a"; shape = record { n = 1048576; parts = 64 } })) }
+    ensures one_file { command_of (codes "build" ∷ codes "e" ∷ codes "e" ∷ codes "4" ∷ codes "2" ∷ []) ≡ None }
+    ensures more_ranges_than_vertices { command_of (codes "build" ∷ codes "e" ∷ codes "a" ∷ codes "1" ∷ codes "2" ∷ []) ≡ None }
+    ensures no_vertices { command_of (codes "build" ∷ codes "e" ∷ codes "a" ∷ codes "0" ∷ codes "0" ∷ []) ≡ None }
+    ensures too_many_vertices { command_of (codes "build" ∷ codes "e" ∷ codes "a" ∷ codes "1048577" ∷ codes "2" ∷ []) ≡ None }
+    ensures too_many_ranges { command_of (codes "build" ∷ codes "e" ∷ codes "a" ∷ codes "65" ∷ codes "65" ∷ []) ≡ None }
+    ensures empty_word { command_of (codes "build" ∷ codes "e" ∷ [] ∷ codes "4" ∷ codes "2" ∷ []) ≡ None }
 {}
 
 /// What lines on standard error say.
 pub fn error_lines()
-    ensures bad_line { text_of (Failure.Refused (Refusal.NotAnEdge 2)) ≡ codes ": line 2: not an edge\n" }
-    ensures no_vertex { text_of (Failure.Refused (Refusal.NoSuchVertex 10)) ≡ codes ": line 10: no such vertex\n" }
-    ensures too_many { text_of (Failure.Refused (Refusal.EdgeTooMany 16777217)) ≡ codes ": line 16777217: too many edges\n" }
-    ensures missing { text_of (Failure.Refused (Refusal.NoSuchFile Operand.Jobs)) ≡ codes ": no such file\n" }
+    ensures bad_line { error_line (build (record { edges = codes "e.txt"; grid = codes "a"; shape = record { n = 4; parts = 2 } }))
+        (Failure.Refused (Refusal.EdgeList (EdgeListRefusal.BadLine 2))) ≡ codes "graphm: e.txt: line 2: not an edge\n" }
+    ensures missing { error_line (run (record { grid = codes "a.grid"; jobs = codes "j.txt"; chunk = 1 }))
+        (Failure.Refused (Refusal.Missing Operand.Jobs)) ≡ codes "graphm: j.txt: no such file\n" }
+    ensures size { error_line (run (record { grid = codes "a.grid"; jobs = codes "j.txt"; chunk = 1 }))
+        (Failure.Refused (Refusal.Grid (GridError.BadSize 95 96))) ≡ codes "graphm: a.grid: size 95, expected 96\n" }
+    ensures shape { error_line (run (record { grid = codes "a.grid"; jobs = codes "j.txt"; chunk = 1 }))
+        (Failure.Refused (Refusal.Grid (GridError.BadShape 0 2))) ≡ codes "graphm: a.grid: bad shape n 0 parts 2\n" }
+    ensures output { error_line (run (record { grid = codes "a.grid"; jobs = codes "j.txt"; chunk = 1 })) Failure.OutputFailed
+        ≡ codes "graphm: output failed\n" }
 {}

@@ -1,26 +1,30 @@
 //! Why a command ends without its whole output.
 
 ghost use Rattle.std.specs.Prelude.{◌≡◌};
-ghost use Rattle.gm_commands.specs.Failures.{refused_operand, refusal_status};
 ghost use Rattle.gm_commands.specs.declared.failure.Failure.TheVariants.{OutOfMemory};
 
-use crate::operand::Operand;
+use gm_edges::EdgeListRefusal;
+use gm_grid::GridError;
 use gm_outside::Trouble;
 use std::alloc::AllocError;
 
-/// Why a file of a command is refused. Lines of an edge list are counted from 1.
+/// A file that a command names, by its word in the usage line.
+#[derive(Clone, Copy, Debug, PartialEq, Eq)]
+pub enum Operand {
+    Edges,
+    Grid,
+    Jobs,
+}
+
+/// Why a file of a command is refused.
 #[derive(Clone, Copy, Debug, PartialEq, Eq)]
 pub enum Refusal {
     /// There is no such file.
-    NoSuchFile(Operand),
+    Missing(Operand),
     /// The grid's file is no grid.
-    BadGrid,
-    /// The line is none of the forms of an edge list.
-    NotAnEdge { line: u64 },
-    /// An end of the line's edge is no vertex.
-    NoSuchVertex { line: u64 },
-    /// The line's edge is one more than 2^24.
-    EdgeTooMany { line: u64 },
+    Grid(GridError),
+    /// The file of edges is no edge list.
+    EdgeList(EdgeListRefusal),
     /// The jobs' file has a form that isn't built yet.
     NotBuiltYet,
 }
@@ -30,29 +34,24 @@ impl Refusal {
     ghost use Rattle.gm_commands.specs.Failures.{refused_operand, refusal_status};
 
     /// The program's status after it.
-    fn status(self) -> u8
+    pub fn status(self) -> u8
         ensures { result ≡ refusal_status self }
     {
         match self {
-            Refusal::NoSuchFile(_) => 3,
-            Refusal::BadGrid => 4,
-            Refusal::NotAnEdge { .. } => 4,
-            Refusal::NoSuchVertex { .. } => 4,
-            Refusal::EdgeTooMany { .. } => 4,
+            Refusal::Missing(_) => 3,
+            Refusal::Grid(_) | Refusal::EdgeList(_) => 4,
             Refusal::NotBuiltYet => 5,
         }
     }
 
     /// The file that is refused.
-    fn operand(self) -> Operand
+    pub fn operand(self) -> Operand
         ensures { result ≡ refused_operand self }
     {
         match self {
-            Refusal::NoSuchFile(operand) => operand,
-            Refusal::BadGrid => Operand::Grid,
-            Refusal::NotAnEdge { .. } => Operand::Edges,
-            Refusal::NoSuchVertex { .. } => Operand::Edges,
-            Refusal::EdgeTooMany { .. } => Operand::Edges,
+            Refusal::Missing(operand) => operand,
+            Refusal::Grid(_) => Operand::Grid,
+            Refusal::EdgeList(_) => Operand::Edges,
             Refusal::NotBuiltYet => Operand::Jobs,
         }
     }
@@ -83,7 +82,6 @@ impl From<AllocError> for Failure {
 
 impl Failure {
     ghost use Rattle.std.specs.Prelude.{◌≡◌};
-    ghost use Rattle.gm_outside.specs.declared.traits.Trouble.TheVariants.{Memory};
     ghost use Rattle.gm_commands.specs.Failures.{status_of, operand_of, failed_by};
 
     /// The program's status after it.
@@ -92,8 +90,7 @@ impl Failure {
     {
         match self {
             Failure::Refused(refusal) => refusal.status(),
-            Failure::ReadFailed(_) => 6,
-            Failure::WriteFailed(_) => 6,
+            Failure::ReadFailed(_) | Failure::WriteFailed(_) => 6,
             Failure::OutputFailed => 7,
             Failure::OutOfMemory => 8,
         }
@@ -105,10 +102,8 @@ impl Failure {
     {
         match self {
             Failure::Refused(refusal) => Some(refusal.operand()),
-            Failure::ReadFailed(operand) => Some(operand),
-            Failure::WriteFailed(operand) => Some(operand),
-            Failure::OutputFailed => None,
-            Failure::OutOfMemory => None,
+            Failure::ReadFailed(operand) | Failure::WriteFailed(operand) => Some(operand),
+            Failure::OutputFailed | Failure::OutOfMemory => None,
         }
     }
 

@@ -1,10 +1,12 @@
-//! What the line of a failure says behind the name.
+//! What the line of a failure says behind the names.
 
 ghost use Rattle.std.specs.Prelude.{◌≡◌, ◌≤◌, length};
-ghost use Rattle.gm_commands.specs.Failures.{line_text, refusal_text, text_of};
+ghost use Rattle.gm_commands.specs.Failures.{grid_error_text, line_text, edge_list_text, refusal_text, text_of};
 
 use crate::failure::{Failure, Refusal};
-use gm_report::Line;
+use gm_edges::EdgeListRefusal;
+use gm_grid::GridError;
+use gm_output::Line;
 
 /// A text alone.
 fn plain_text(text: &[u8]) -> Line
@@ -16,29 +18,73 @@ fn plain_text(text: &[u8]) -> Line
     line
 }
 
-/// A line of an edge list by its number, and what is wrong with it.
+/// What is wrong with a grid.
+fn grid_error_text(error: GridError) -> Line
+    ensures { result ≡ grid_error_text error }
+{
+    let mut line = Line::new();
+    match error {
+        GridError::BadMagic => line.text(b"bad magic"),
+        GridError::BadShape { n, parts } => {
+            line.text(b"bad shape n ");
+            line.number(u64::from(n));
+            line.text(b" parts ");
+            line.number(u64::from(parts));
+        }
+        GridError::TooManyEdges { edges } => {
+            line.text(b"too many edges ");
+            line.wide_number(edges);
+        }
+        GridError::BadSize { found, expected } => {
+            line.text(b"size ");
+            line.number(found);
+            line.text(b", expected ");
+            line.number(expected);
+        }
+        GridError::TooManyChunks { chunks } => {
+            line.text(b"too many chunks ");
+            line.number(chunks);
+        }
+        GridError::BadEdge { index } => {
+            line.text(b"bad edge ");
+            line.number(index);
+        }
+    }
+    line
+}
+
+/// A line of a text by its number, and what is wrong with it.
 fn line_text(number: u64, what: &[u8]) -> Line
     requires { length what.now ≤ 20 }
     ensures { result ≡ line_text number what.now }
 {
     let mut line = Line::new();
-    line.text(b": line ");
+    line.text(b"line ");
     line.number(number);
+    line.text(b": ");
     line.text(what);
     line
 }
 
-#[tactic(auto, unfolding(crate::specs::Failures::refusal_text))]
+/// What is wrong with an edge list.
+fn edge_list_text(refusal: EdgeListRefusal) -> Line
+    ensures { result ≡ edge_list_text refusal }
+{
+    match refusal {
+        EdgeListRefusal::BadLine { line } => line_text(line, b"not an edge"),
+        EdgeListRefusal::NoVertex { line } => line_text(line, b"no such vertex"),
+        EdgeListRefusal::TooManyEdges { line } => line_text(line, b"too many edges"),
+    }
+}
+
 fn refusal_text(refusal: Refusal) -> Line
     ensures { result ≡ refusal_text refusal }
 {
     match refusal {
-        Refusal::NoSuchFile(_) => plain_text(b": no such file\n"),
-        Refusal::BadGrid => plain_text(b": bad grid\n"),
-        Refusal::NotAnEdge { line } => line_text(line, b": not an edge\n"),
-        Refusal::NoSuchVertex { line } => line_text(line, b": no such vertex\n"),
-        Refusal::EdgeTooMany { line } => line_text(line, b": too many edges\n"),
-        Refusal::NotBuiltYet => plain_text(b": not built yet\n"),
+        Refusal::Missing(_) => plain_text(b"no such file"),
+        Refusal::Grid(error) => grid_error_text(error),
+        Refusal::EdgeList(refusal) => edge_list_text(refusal),
+        Refusal::NotBuiltYet => plain_text(b"not built yet"),
     }
 }
 
@@ -48,9 +94,9 @@ pub(crate) fn text_of(failure: Failure) -> Line
 {
     match failure {
         Failure::Refused(refusal) => refusal_text(refusal),
-        Failure::ReadFailed(_) => plain_text(b": read failed\n"),
-        Failure::WriteFailed(_) => plain_text(b": write failed\n"),
-        Failure::OutputFailed => plain_text(b"output failed\n"),
-        Failure::OutOfMemory => plain_text(b"out of memory\n"),
+        Failure::ReadFailed(_) => plain_text(b"read failed"),
+        Failure::WriteFailed(_) => plain_text(b"write failed"),
+        Failure::OutputFailed => plain_text(b"output failed"),
+        Failure::OutOfMemory => plain_text(b"out of memory"),
     }
 }

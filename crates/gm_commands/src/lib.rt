@@ -1,20 +1,14 @@
-//! What the commands have in common: their words, why they end without their output, and what they say then.
+//! What the commands have in common: their words, the files that they read, why they end without their output, and what they say then.
 #![tactic(auto)]
 
-mod build_words;
-mod examples;
+mod command;
+pub mod examples;
 mod failure;
 mod failure_text;
-mod operand;
-mod run_words;
-mod sizes;
+mod files;
 mod standard_error;
-mod words;
 
-pub use build_words::{BuildCommand, build_command};
-pub use examples::{error_lines, words_of_a_build, words_of_a_run};
-pub use failure::{Failure, Refusal};
-pub use operand::{Operand, Operands};
-pub use run_words::{RunCommand, run_command};
-pub use sizes::file_size;
-pub use standard_error::{say, say_usage};
+pub use command::{BuildCommand, Command, RunCommand, read_command};
+pub use failure::{Failure, Operand, Refusal};
+pub use files::{FileText, file_size, read_file};
+pub use standard_error::{conclude, say_usage};

@@ -1,68 +1,54 @@
-//! The one line on standard error.
-#![tactic(auto, using(gm_report::specs::Pieces::streaming))]
+//! The one line on standard error, and the status that goes with it.
 
-ghost use Rattle.std.specs.Prelude.{◌≡◌, [], ◌++◌, OnOk, OnErr};
-ghost use Rattle.gm_outside.specs.Causes.{HasCause};
-ghost use Rattle.gm_outside.specs.Growth.{GrewBy, GrewByPrefix};
-ghost use Rattle.gm_report.specs.Pieces.{Streams};
-ghost use Rattle.gm_commands.specs.StandardError.{IsSaid, sink_change, program_name, line_of, usage_text, error_line};
+ghost use Rattle.std.specs.Prelude.{◌≡◌, IfOk, IfErr, OnOk};
+ghost use Rattle.gm_outside.specs.Calls.{sink_change};
+ghost use Rattle.gm_outside.specs.Frames.{Writes};
+ghost use Rattle.gm_commands.specs.Commands.{said};
+ghost use Rattle.gm_commands.specs.Failures.{status_of};
+ghost use Rattle.gm_commands.specs.StandardError.{IsSaid, SaysNothing, usage_line, error_line};
 
+use crate::command::Command;
 use crate::failure::Failure;
 use crate::failure_text::text_of;
-use crate::operand::Operands;
+use gm_output::write_texts;
 use gm_outside::{Sink, Trouble};
-use gm_report::Pieces;
+
+/// What each line begins with.
+const PROGRAM: &[u8] = b"graphm: ";
 
 const USAGE: &[u8] =
-    b"usage: run GRID JOBS WORKERS CHUNK, build EDGES GRID N PARTS, info GRID CHUNK, drill NUMBER SCALE WORKERS\n";
+    b"usage: run GRID JOBS WORKERS CHUNK, build EDGES GRID N PARTS, info GRID CHUNK, drill NUMBER SCALE WORKERS";
 
-/// Adds what each line begins with.
-#[tactic(auto, unfolding(crate::specs::StandardError::program_name))]
-fn push_program_name<E: Sink>(pieces: &mut Pieces, err: &mut E) -> Result<(), Trouble>
-    ensures ok { OnOk result (Streams (E.written err.old) pieces.old (E.written err.new) pieces.new program_name) }
-    ensures err { OnErr result (GrewByPrefix (E.written err.old) (E.written err.new) (pieces.old ++ program_name)) }
-    ensures fault { HasCause Trouble.Failed (E.faults err.old) (E.faults err.new) result }
-    ensures lack { HasCause Trouble.Memory (E.lacks err.old) (E.lacks err.new) result }
+#[tactic(auto, unfolding(crate::specs::StandardError::usage_line))]
+fn write_usage<E: Sink>(err: &mut E) -> Result<(), Trouble>
+    ensures { Writes usage_line (sink_change ⟦<E as Sink>⟧ err.old err.new) result }
 {
-    pieces.push(err, b"graphm: ")
+    write_texts(err, &[PROGRAM, USAGE, b"\n"])
 }
 
-/// Adds a line of a name and a text.
-fn push_line<E: Sink>(
-    pieces: &mut Pieces,
+/// Writes the line of a failure, by the command's words for its files.
+fn write_failure<E: Sink>(
     err: &mut E,
-    name: &[u8],
-    text: &[u8],
+    command: &Command<'_>,
+    failure: Failure,
 ) -> Result<(), Trouble>
-    ensures ok { OnOk result (Streams (E.written err.old) pieces.old (E.written err.new) pieces.new (line_of name.now text.now)) }
-    ensures err { OnErr result (GrewByPrefix (E.written err.old) (E.written err.new) (pieces.old ++ line_of name.now text.now)) }
-    ensures fault { HasCause Trouble.Failed (E.faults err.old) (E.faults err.new) result }
-    ensures lack { HasCause Trouble.Memory (E.lacks err.old) (E.lacks err.new) result }
+    ensures { Writes (error_line (said command.now) failure) (sink_change ⟦<E as Sink>⟧ err.old err.new) result }
 {
-    push_program_name(pieces, err)?;
-    pieces.push_all(err, name)?;
-    pieces.push_all(err, text)?;
-    Ok(())
+    let text = text_of(failure);
+    match failure.operand() {
+        Some(operand) => {
+            let name = command.word(operand).as_bytes();
+            write_texts(err, &[PROGRAM, name, b": ", text.as_slice(), b"\n"])
+        }
+        None => write_texts(err, &[PROGRAM, text.as_slice(), b"\n"]),
+    }
 }
 
-fn write_line<E: Sink>(err: &mut E, name: &[u8], text: &[u8]) -> Result<(), Trouble>
-    ensures ok { OnOk result (GrewBy (E.written err.old) (E.written err.new) (line_of name.now text.now)) }
-    ensures err { OnErr result (GrewByPrefix (E.written err.old) (E.written err.new) (line_of name.now text.now)) }
-    ensures fault { HasCause Trouble.Failed (E.faults err.old) (E.faults err.new) result }
-    ensures lack { HasCause Trouble.Memory (E.lacks err.old) (E.lacks err.new) result }
+/// Says how the program is called. Where standard error fails, a first part of the line was written.
+pub fn say_usage<E: Sink>(err: &mut E)
+    ensures { IsSaid usage_line (sink_change ⟦<E as Sink>⟧ err.old err.new) }
 {
-    let mut pieces = Pieces::new();
-    push_line(&mut pieces, err, name, text)?;
-    pieces.finish(err)
-}
-
-/// Says a line that begins with the program's name and goes on with this name and text, in one write where it is short. Where
-/// standard error fails, a first part of the line was written.
-#[tactic(auto)]
-fn say_line<E: Sink>(err: &mut E, name: &[u8], text: &[u8])
-    ensures { IsSaid (sink_change ⟦<E as Sink>⟧ err.old err.new) (line_of name.now text.now) }
-{
-    let written = write_line(err, name, text);
+    let written = write_usage(err);
     match written {
         Ok(()) => {}
         Err(Trouble::Failed) => {}
@@ -70,23 +56,30 @@ fn say_line<E: Sink>(err: &mut E, name: &[u8], text: &[u8])
     }
 }
 
-/// Says how the program is called.
-#[tactic(auto, unfolding(crate::specs::StandardError::usage_text))]
-pub fn say_usage<E: Sink>(err: &mut E)
-    ensures { IsSaid (sink_change ⟦<E as Sink>⟧ err.old err.new) (line_of [] usage_text) }
+/// Says why a command failed. Where standard error fails too, a first part of the line was written.
+fn say<E: Sink>(err: &mut E, command: &Command<'_>, failure: Failure)
+    ensures { IsSaid (error_line (said command.now) failure) (sink_change ⟦<E as Sink>⟧ err.old err.new) }
 {
-    say_line(err, &[], USAGE);
+    let written = write_failure(err, command, failure);
+    match written {
+        Ok(()) => {}
+        Err(Trouble::Failed) => {}
+        Err(Trouble::Memory) => {}
+    }
 }
 
-/// Says why a command failed. Where standard error fails too, a first part of the line was written.
-#[tactic(auto)]
-pub fn say<E: Sink, C: Operands>(err: &mut E, command: &C, failure: Failure)
-    ensures { IsSaid (sink_change ⟦<E as Sink>⟧ err.old err.new) (error_line (C.word_of command.now) failure) }
+/// The status of a command that ended so. Where it failed its line is said, and else nothing.
+pub fn conclude<E: Sink>(err: &mut E, command: &Command<'_>, outcome: Result<u8, Failure>) -> u8
+    ensures status { IfOk outcome (λ status. result ≡ status) }
+    ensures silence { OnOk outcome (SaysNothing (sink_change ⟦<E as Sink>⟧ err.old err.new)) }
+    ensures failed { IfErr outcome (λ failure. result ≡ status_of failure) }
+    ensures line { IfErr outcome (λ failure. IsSaid (error_line (said command.now) failure) (sink_change ⟦<E as Sink>⟧ err.old err.new)) }
 {
-    let name = match failure.operand() {
-        Some(operand) => command.word(operand),
-        None => "",
-    };
-    let text = text_of(failure);
-    say_line(err, name.as_bytes(), text.as_slice());
+    match outcome {
+        Ok(status) => status,
+        Err(failure) => {
+            say(err, command, failure);
+            failure.status()
+        }
+    }
 }

@@ -1,5 +1,5 @@
-pub mod Refusals
-pub mod Words
-pub mod Texts
-pub mod Graphs
-pub mod Readings
+pub mod RefusedReaders
+pub mod LinesByByte
+pub mod TextsByByte
+pub mod ListedGraphs
+pub mod ReaderAnswers

@@ -1,2 +1,4 @@
 pub mod EdgeText
-pub mod Scanner
+pub mod EdgeErrors
+pub mod LineStates
+pub mod ReaderStates

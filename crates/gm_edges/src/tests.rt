@@ -2,7 +2,7 @@
 
 ghost use Rattle.std.specs.Prelude.{◌++◌};
 ghost use Rattle.gm_edges.specs.EdgeText.{edge_list_of};
-ghost use Rattle.gm_edges.specs.Scanner.{IsUnlessMemory};
+ghost use Rattle.gm_edges.specs.EdgeErrors.{IsUnlessMemory};
 
 use crate::{EdgeError, EdgeReader};
 use gm_base::{Edge, Edges};
@@ -18,10 +18,20 @@ fn read_in_two(alloc: Global, front: &[u8], back: &[u8]) -> Result<Edges, EdgeEr
     reader.finish()
 }
 
-/// What a reader answers that is fed a text cut at this place.
-fn read_cut(alloc: Global, text: &[u8], cut: usize) -> Option<Result<Edges, EdgeError>> {
-    let (front, back) = text.split_at_checked(cut)?;
-    Some(read_in_two(alloc, front, back))
+/// Whether the text gives this answer wherever it is cut.
+fn gives(alloc: Global, text: &[u8], expected: Result<&[Edge], EdgeError>) -> bool {
+    for cut in 0..text.len() + 1 {
+        let (front, back) = text.split_at(cut);
+        let is_expected = match (read_in_two(alloc, front, back), expected) {
+            (Ok(edges), Ok(listed)) => edges.as_slice() == listed,
+            (Err(error), Err(refusal)) => error == refusal,
+            _ => false,
+        };
+        if !is_expected {
+            return false;
+        }
+    }
+    true
 }
 
 const fn edge(from: u32, to: u32, weight: u32) -> Edge {
@@ -29,7 +39,7 @@ const fn edge(from: u32, to: u32, weight: u32) -> Edge {
 }
 
 #[test]
-fn lists_edges_however_cut(rt: HostRuntime) {
+fn lists_edges(rt: HostRuntime) {
     let rows: [(&[u8], &[Edge]); 10] = [
         (
             b"# Nodes: 4 Edges: 4\r\n0\t1\r\n1\t2\r\n0\t2\t5\r\n2\t3",
@@ -45,42 +55,34 @@ fn lists_edges_however_cut(rt: HostRuntime) {
         (b"0 1 4294967295", &[edge(0, 1, 4294967295)]),
         (b" 0 1 0 ", &[edge(0, 1, 0)]),
     ];
-    for (text, expected) in rows {
-        for cut in 0..=text.len() {
-            let answer = read_cut(rt.alloc(), text, cut);
-            let is_expected = match &answer {
-                Some(Ok(edges)) => edges.as_slice() == expected,
-                _ => false,
-            };
-            assert!(rt; is_expected, "{text:?} cut at {cut}");
-        }
+    for (text, edges) in rows {
+        assert!(rt; gives(rt.alloc(), text, Ok(edges)), "{text:?}");
     }
 }
 
 #[test]
-fn refuses_however_cut(rt: HostRuntime) {
-    let rows: [(&[u8], EdgeError); 12] = [
+fn refuses_lines(rt: HostRuntime) {
+    let bad_first_lines: [&[u8]; 8] = [
+        b"0",
+        b"0 1 2 3",
+        b"0 1 4294967296",
+        b"000000000000000000003 1",
+        b"18446744073709551616 1",
+        b"0\x001 2",
+        b"0 #1",
+        b"9 9 x\n",
+    ];
+    for text in bad_first_lines {
+        let refusal = EdgeError::BadLine { line: 1 };
+        assert!(rt; gives(rt.alloc(), text, Err(refusal)), "{text:?}");
+    }
+    let rows: [(&[u8], EdgeError); 4] = [
         (b"0 1\n1 x\n", EdgeError::BadLine { line: 2 }),
         (b"0 4", EdgeError::NoVertex { line: 1 }),
-        (b"0", EdgeError::BadLine { line: 1 }),
-        (b"0 1 2 3", EdgeError::BadLine { line: 1 }),
-        (b"0 1 4294967296", EdgeError::BadLine { line: 1 }),
-        (b"000000000000000000003 1", EdgeError::BadLine { line: 1 }),
-        (b"18446744073709551616 1", EdgeError::BadLine { line: 1 }),
         (b"18446744073709551615 1", EdgeError::NoVertex { line: 1 }),
-        (b"0\x001 2", EdgeError::BadLine { line: 1 }),
-        (b"0 #1", EdgeError::BadLine { line: 1 }),
-        (b"9 9 x\n", EdgeError::BadLine { line: 1 }),
         (b"#\n\n9 9\nx", EdgeError::NoVertex { line: 3 }),
     ];
-    for (text, expected) in rows {
-        for cut in 0..=text.len() {
-            let answer = read_cut(rt.alloc(), text, cut);
-            let is_expected = match &answer {
-                Some(Err(refusal)) => *refusal == expected,
-                _ => false,
-            };
-            assert!(rt; is_expected, "{text:?} cut at {cut}");
-        }
+    for (text, refusal) in rows {
+        assert!(rt; gives(rt.alloc(), text, Err(refusal)), "{text:?}");
     }
 }

@@ -1,6 +1,6 @@
-pub mod Bytes
-pub mod Places
-pub mod Search
-pub mod Chunks
-pub mod Blocks
-pub mod Readings
+pub mod FieldBytes
+pub mod RangeTests
+pub mod FixedSizes
+pub mod BlockCuts
+pub mod GridReadings
+pub mod MisplacedSearch

@@ -1,4 +1,6 @@
 pub mod Format
-pub mod Refusals
-pub mod Ranges
-pub mod Examples
+pub mod GridBytes
+pub mod GridBytesRules
+pub mod GridRefusals
+pub mod GridRefusalsRules
+pub mod SmallGrids

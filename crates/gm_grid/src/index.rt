@@ -1,17 +1,18 @@
 //! The index of a grid's file: how many edges each block has.
 
-ghost use Rattle.std.specs.Prelude.{◌≡◌, ◌+◌, ◌*◌, ◌≤◌, ◌<◌, ◌^◌, ◌↔◌, length, map, sum, IfOk, Some};
+ghost use Rattle.std.specs.Prelude.{◌≡◌, ◌*◌, ◌≤◌, ◌↔◌, length, map, sum, IfOk, OnOk, Some, None};
 ghost use Rattle.byteorder.specs.Endian.{little_number};
-ghost use Rattle.gm_grid.specs.Format.{count_bytes, most_edges};
-ghost use Rattle.gm_grid.specs.Refusals.{counts_in, index_refusal, file_size};
+ghost use Rattle.gm_base.specs.declared.limits.TheConstants.{MAX_EDGES, MAX_PARTS};
+ghost use Rattle.gm_grid.specs.GridBytes.{counts_of_index, index_size, grid_file_size};
+ghost use Rattle.gm_grid.specs.GridRefusals.{index_refusal};
 
 use crate::{GridError, IndexError};
 use byteorder::{ByteOrder, LittleEndian};
-use gm_base::{MOST_EDGES, Shape};
-use std::alloc::Global;
+use gm_base::{MAX_EDGES, Shape};
+use std::alloc::{AllocError, Global};
 use std::marker::Model;
 
-/// How many edges each block of a grid has, row by row: at most 2^24 in all. Contracts see the list of the numbers.
+/// How many edges each block of a grid has, row by row: at most [`MAX_EDGES`] in all. Contracts see the list of the numbers.
 #[derive(Drop)]
 pub struct Index {
     counts: Vec<u64>,
@@ -19,20 +20,20 @@ pub struct Index {
 }
 
 impl Model for Index {
-    ghost use Rattle.std.specs.Prelude.{◌≡◌, ◌≤◌, ℕ, List, length, sum};
-    ghost use Rattle.gm_grid.specs.Format.{most_edges};
+    ghost use Rattle.std.specs.Prelude.{◌≡◌, ◌*◌, ◌≤◌, ℕ, List, length, sum};
+    ghost use Rattle.gm_base.specs.declared.limits.TheConstants.{MAX_EDGES, MAX_PARTS};
 
     ghost Value = { List ℕ };
 
     ghost view = { λ a. a.counts.items };
 
-    ghost invariant = { λ a. (a.edges ≡ sum a.counts.items) × (sum a.counts.items ≤ most_edges) × (length a.counts.items ≤ 4096) };
+    ghost invariant = { λ a. (a.edges ≡ sum a.counts.items) × (sum a.counts.items ≤ MAX_EDGES) × (length a.counts.items ≤ MAX_PARTS * MAX_PARTS) };
 }
 
 /// How many bytes the index behind a head of this shape has.
-pub(crate) fn index_size(shape: &Shape) -> usize
-    ensures value { result ≡ 8 * (shape.now.parts * shape.now.parts) }
-    ensures most { result ≤ 32768 }
+pub fn index_size(shape: &Shape) -> usize
+    ensures value { result ≡ index_size shape.now }
+    ensures most { result ≤ 8 * (MAX_PARTS * MAX_PARTS) }
 {
     let parts = shape.parts() as usize;
     8 * (parts * parts)
@@ -40,42 +41,41 @@ pub(crate) fn index_size(shape: &Shape) -> usize
 
 /// How many edges the blocks have in all.
 pub(crate) fn edges_in_all(counts: &[[u8; 8]]) -> u128
+    requires { length counts.now ≤ MAX_PARTS * MAX_PARTS }
     ensures { result ≡ sum (map (little_number 8) counts.now) }
 {
-    let mut edges = 0u128;
-    for count in counts {
-        edges += u128::from(LittleEndian::read_u64(count));
-    }
-    edges
+    counts
+        .iter()
+        .map(|count| u128::from(LittleEndian::read_u64(count)))
+        .sum()
 }
 
-/// Writes the bytes of the number of edges of a block.
-pub fn write_count(count: u64, into: &mut [u8; 8])
-    ensures { into.new ≡ count_bytes count }
+/// The numbers of these bytes.
+fn read_counts(alloc: Global, counts: &[[u8; 8]]) -> Result<Vec<u64>, AllocError>
+    ensures { IfOk result (λ read. read.items ≡ map (little_number 8) counts.now) }
 {
-    LittleEndian::write_u64(into, count);
+    counts
+        .iter()
+        .map(|count| LittleEndian::read_u64(count))
+        .collect(alloc)
 }
 
-/// The index behind a head of this shape. `TooManyEdges` exactly where the blocks have more than 2^24 edges in all; else `Memory`.
+/// The index behind a head of this shape. `TooManyEdges` exactly where the blocks have more than [`MAX_EDGES`] edges in all; else
+/// `Memory`.
 pub fn read_index(alloc: Global, shape: &Shape, bytes: &[u8]) -> Result<Index, IndexError>
-    requires { length bytes.now ≡ 8 * (shape.now.parts * shape.now.parts) }
-    ensures ok { IfOk result (λ index. (index ≡ counts_in bytes.now) × (length index ≡ shape.now.parts * shape.now.parts)) }
-    ensures refused { (e : GridError) → (result ≡ Err (IndexError.Grid e)) ↔ (index_refusal (counts_in bytes.now) ≡ Some e) }
+    requires { length bytes.now ≡ index_size shape.now }
+    ensures ok { IfOk result (λ index. (index ≡ counts_of_index bytes.now) × (length index ≡ shape.now.parts * shape.now.parts)) }
+    ensures taken { OnOk result (index_refusal (counts_of_index bytes.now) ≡ None) }
+    ensures refused { (e : GridError) → (result ≡ Err (IndexError.Grid e)) ↔ (index_refusal (counts_of_index bytes.now) ≡ Some e) }
 {
     let size = index_size(shape);
     prove!(bytes.len() == size);
     let (numbers, _) = bytes.as_chunks::<8>();
     let edges = edges_in_all(numbers);
-    if edges > u128::from(MOST_EDGES) {
+    if edges > u128::from(MAX_EDGES) {
         return Err(IndexError::Grid(GridError::TooManyEdges { edges }));
     }
-    let Ok(counts) = numbers
-        .iter()
-        .map(|number| LittleEndian::read_u64(number))
-        .collect::<Vec<u64>>(alloc)
-    else {
-        return Err(IndexError::Memory);
-    };
+    let counts = read_counts(alloc, numbers)?;
     Ok(Index {
         counts,
         edges: edges as u64,
@@ -93,14 +93,14 @@ impl Index {
     /// How many edges there are in all.
     pub fn edges(&self) -> u64
         ensures value { result ≡ sum self.now }
-        ensures most { result ≤ most_edges }
+        ensures most { result ≤ MAX_EDGES }
     {
         self.edges
     }
 
     /// How many bytes the whole file has.
     pub fn expected_size(&self) -> u64
-        ensures { result ≡ file_size (length self.now) (sum self.now) }
+        ensures { result ≡ grid_file_size (length self.now) (sum self.now) }
     {
         16 + 8 * self.counts.len() as u64 + 12 * self.edges
     }

@@ -1,11 +1,11 @@
-//! Each call that can want memory, once with ample memory.
+//! Each call that can want memory, once with ample memory, and the texts of refusals.
 
-use crate::{read_grid, read_index};
+use crate::{GridError, read_grid, read_index};
 use gm_base::{Edge, Shape};
 use std::test::Fail;
 
 /// A way over four vertices with a shortcut, in two ranges.
-const WAY: [u8; 96] = *b"GGRID001\x04\0\0\0\x02\0\0\0\
+const WAY_FILE: [u8; 96] = *b"GGRID001\x04\0\0\0\x02\0\0\0\
     \x01\0\0\0\0\0\0\0\x02\0\0\0\0\0\0\0\0\0\0\0\0\0\0\0\x01\0\0\0\0\0\0\0\
     \0\0\0\0\x01\0\0\0\x01\0\0\0\x01\0\0\0\x02\0\0\0\x01\0\0\0\
     \0\0\0\0\x02\0\0\0\x05\0\0\0\x02\0\0\0\x03\0\0\0\x01\0\0\0";
@@ -16,7 +16,7 @@ fn edge(from: u32, to: u32, weight: u32) -> Edge {
 
 #[test]
 fn reads_a_grid(rt: HostRuntime) -> Result<(), Fail> {
-    let grid = read_grid(rt.alloc(), &WAY)?;
+    let grid = read_grid(rt.alloc(), &WAY_FILE)?;
     assert_eq!(rt; grid.shape.n(), 4);
     assert_eq!(rt; grid.shape.parts(), 2);
     let edges = [edge(0, 1, 1), edge(1, 2, 1), edge(0, 2, 5), edge(2, 3, 1)];
@@ -27,9 +27,41 @@ fn reads_a_grid(rt: HostRuntime) -> Result<(), Fail> {
 #[test]
 fn reads_an_index(rt: HostRuntime) -> Result<(), Fail> {
     let shape = Shape::new(4, 2).unwrap();
-    let index = read_index(rt.alloc(), &shape, &WAY[16..48])?;
+    let index = read_index(rt.alloc(), &shape, &WAY_FILE[16..48])?;
     assert_eq!(rt; index.counts(), [1u64, 2, 0, 1].as_slice());
     assert_eq!(rt; index.edges(), 4);
     assert_eq!(rt; index.expected_size(), 96);
+    Ok(())
+}
+
+#[test]
+fn says_why(rt: HostRuntime) -> Result<(), Fail> {
+    let rows = [
+        (GridError::BadMagic, "bad magic"),
+        (
+            GridError::BadShape { n: 0, parts: 2 },
+            "bad shape n 0 parts 2",
+        ),
+        (
+            GridError::TooManyEdges { edges: 16_777_217 },
+            "too many edges 16777217",
+        ),
+        (
+            GridError::BadSize {
+                found: 95,
+                expected: 96,
+            },
+            "size 95, expected 96",
+        ),
+        (
+            GridError::TooManyChunks { chunks: 1_048_577 },
+            "too many chunks 1048577",
+        ),
+        (GridError::BadEdge { index: 1 }, "bad edge 1"),
+    ];
+    for (error, text) in rows {
+        let said = format!(in rt.alloc(); "{error}")?;
+        assert_eq!(rt; said.as_str(), text);
+    }
     Ok(())
 }

@@ -1,13 +1,13 @@
--- The text of a job: at most 1,048,576 bytes. Of its lines, all but one mean nothing, and that one states the job.
-use Rattle.std.specs.Prelude.{ℕ, ◌+◌, nat_lt, nat_le, Bool, false, not, ◌&&◌, if◌then◌else◌, List, [], ◌∷◌, length, map, Option, Some, None, option_map, codes}
+-- The text of a job, not too long. Of its lines, all but one mean nothing, and that one states the job.
+use Rattle.std.specs.Prelude.{ℕ, ◌+◌, nat_lt, nat_le, Bool, ◌&&◌, if◌then◌else◌, List, [], ◌∷◌, length, Option, Some, None, option_map, codes}
 use Rattle.std.specs.Option.{option_zip}
-use Rattle.std.specs.List.{filter}
 use Rattle.std.specs.Str.{bytes_eq}
 use Rattle.gm_base.specs.declared.job.Spec.{Spec}
 use Rattle.gm_base.specs.declared.job.Spec.TheVariants.{Bfs, Sssp, Wcc, Rank}
 use Rattle.gm_base.specs.Names.{is_name}
-use Rattle.gm_base.specs.Texts.{lines_of, words_of, number_in, begins_comment}
-use Rattle.gm_jobs.specs.declared.job.Job.{Job}
+use Rattle.gm_text.specs.Texts.{number_in, statements_of}
+use Rattle.gm_jobs.specs.declared.stated_job.Job.{Job}
+use Rattle.gm_jobs.specs.declared.stated_job.TheConstants.{MAX_TEXT_BYTES, MAX_ROUNDS}
 
 -- a number, where it fits
 abbrev pub where_fit : (ℕ → Bool) → Option ℕ → Option ℕ
@@ -18,9 +18,9 @@ where_fit fits (Some number) = if fits number then Some number else None
 abbrev pub vertex_in : ℕ → List ℕ → Option ℕ
 vertex_in n word = where_fit (λ number. nat_lt number n) (number_in word)
 
--- the number of rounds that a word states, from 1 to 1,000,000
+-- the number of rounds that a word states, from 1 to the greatest
 abbrev pub rounds_in : List ℕ → Option ℕ
-rounds_in word = where_fit (λ number. nat_le 1 number && nat_le number 1000000) (number_in word)
+rounds_in word = where_fit (λ number. nat_le 1 number && nat_le number MAX_ROUNDS) (number_in word)
 
 -- the same, where no other word stands
 abbrev pub only_rounds : List (List ℕ) → Option ℕ
@@ -61,25 +61,12 @@ abbrev pub job_of_words : ℕ → List (List ℕ) → Option Job
 job_of_words n [] = None
 job_of_words n (word ∷ more) = if bytes_eq word (codes "job") then named_job_of n more else None
 
--- a line without a word means nothing, and so does one whose first word begins with '#'
-abbrev pub means_something : List (List ℕ) → Bool
-means_something [] = false
-means_something (word ∷ more) = not (begins_comment word)
-
--- the words of each line that means something
-abbrev pub statements_of : List ℕ → List (List (List ℕ))
-statements_of text = filter means_something (map words_of (lines_of text))
-
 -- the job, where there is one such line and no other
 abbrev pub job_of_statements : ℕ → List (List (List ℕ)) → Option Job
 job_of_statements n [] = None
 job_of_statements n (words ∷ []) = job_of_words n words
 job_of_statements n (words ∷ next ∷ more) = None
 
--- how long a job text may be
-abbrev pub most_bytes : ℕ
-most_bytes = 1048576
-
 -- the job of a text over n vertices, where exactly one line means something; a longer text states no job, whatever its lines are
 abbrev pub job_of_text : ℕ → List ℕ → Option Job
-job_of_text n text = if nat_le (length text) most_bytes then job_of_statements n (statements_of text) else None
+job_of_text n text = if nat_le (length text) MAX_TEXT_BYTES then job_of_statements n (statements_of text) else None

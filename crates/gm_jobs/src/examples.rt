@@ -13,7 +13,7 @@ pub fn jobs_of_each_kind()
     ensures ranks { job_of_text 4 (codes "job d rank 2\n") ≡ Some (job_named (codes "d") (Spec.Rank 2)) }
 {}
 
-/// A bound is from 1 to 1,000,000.
+/// A bound is from 1 to the greatest number of rounds.
 pub fn jobs_with_bounds()
     ensures levels { job_of_text 4 (codes "job a bfs 0 rounds 1") ≡ Some (job_named (codes "a") (Spec.Bfs 0 1)) }
     ensures distances { job_of_text 4 (codes "job b sssp 3 rounds 07") ≡ Some (job_named (codes "b") (Spec.Sssp 3 7)) }

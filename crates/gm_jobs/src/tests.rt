@@ -1,6 +1,6 @@
 //! Texts that are read with ample memory. The expected jobs were worked out by hand from the form of a job text.
 
-use crate::{MOST_BYTES, read_job};
+use crate::{MAX_TEXT_BYTES, read_job};
 use gm_base::Spec;
 use std::test::Fail;
 
@@ -78,7 +78,7 @@ fn takes_no_other_text(rt: HostRuntime) -> Result<(), Fail> {
 #[test]
 fn takes_no_longer_text(rt: HostRuntime) -> Result<(), Fail> {
     let mut text = Vec::from_slice(rt.alloc(), b"job a wcc\n#")?;
-    text.resize(MOST_BYTES, b'x')?;
+    text.resize(MAX_TEXT_BYTES, b'x')?;
     assert_eq!(rt; text.len(), 1_048_576);
     assert!(rt;
         read_job(rt.alloc(), &text, 4)?.is_some(),

@@ -1,3 +1,10 @@
+pub mod Kernels
+pub mod Runs
 pub mod Activity
-pub mod Laws
-pub mod Least
+pub mod KernelLaws
+pub mod KernelsRules
+pub mod GiftsRules
+pub mod PassRules
+pub mod RunsRules
+pub mod ActivityRules
+pub mod SettlingRules

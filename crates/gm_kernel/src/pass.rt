@@ -2,7 +2,7 @@
 
 ghost use Rattle.std.specs.Prelude.{◌≡◌, ℕ, ◌<◌, length, slice_index, slice_set, All};
 ghost use Rattle.gm_base.specs.Graph.{HasEndsBelow};
-ghost use Rattle.gm_base.specs.Runs.{gift_from, joined_at};
+ghost use Rattle.gm_kernel.specs.Runs.{gift_from, joined_at};
 
 use crate::Kernel;
 use gm_base::Edge;

@@ -2,7 +2,8 @@
 use Rattle.std.proofs.Common.{◌≡◌, ℕ, ◌+◌, ◌-◌, List, [], take, drop, length, Option, Some, None, sym, subst, append-nil, arith, take-add, take-append-drop}
 use Rattle.std.proofs.lemmas.Grind.{common_steps}
 use Rattle.std.specs.Io.KnownBytes.{Appends, Keeps}
-use Rattle.gm_outside.specs.Growth.{GrewBy, GrewByPrefix, grew_by-then, grew_by-told, grew_by-nothing}
+use Rattle.gm_outside.specs.Growth.{GrewBy, GrewByPrefix}
+use Rattle.gm_outside.specs.GrowthRules.{grew_by-then, grew_by-told, grew_by-nothing}
 
 pub grew_by-appends : (old new : Option (List ℕ)) (text : List ℕ) → Appends old new text → GrewBy old new text
 grew_by-appends None new text h = record { grown = λ held is. cc }

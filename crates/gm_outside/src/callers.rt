@@ -2,8 +2,9 @@
 ghost use Rattle.std.specs.Prelude.{◌≡◌, ◌++◌, ◌⊎◌, [], ◌∷◌, Some, None, IfSome, IfOk, OnOk, OnErr, IsErrOf, IsTrue};
 ghost use Rattle.std.specs.FinMap as map;
 ghost use Rattle.gm_outside.specs.Changes.{with_file, HoldsPrefix};
-ghost use Rattle.gm_outside.specs.Causes.{counted, HasCause};
-ghost use Rattle.gm_outside.specs.Growth.{GrewBy, GrewByPrefix};
+ghost use Rattle.gm_outside.specs.Causes.{counted, HasCause, HasExactCause};
+ghost use Rattle.gm_outside.specs.Frames.{OnlyReads, Writes};
+ghost use Rattle.gm_outside.specs.Calls.{depot_change, sink_change};
 ghost use Rattle.gm_outside.specs.Memory.{next_limit};
 
 use crate::mem_depot::MemDepot;
@@ -24,9 +25,9 @@ fn read_two<D: Depot>(
 ) -> Result<Option<Pair>, Trouble>
     ensures bytes { IfSome (D.files depot.old) (λ files. IfOk result (λ both. IfSome both (λ pair.
         (map.get files first.now ≡ Some pair.0.items) × (map.get files second.now ≡ Some pair.1.items)))) }
-    ensures cause { HasCause Trouble.Failed (D.faults depot.old) (D.faults depot.new) result }
+    ensures cause { HasExactCause Trouble.Failed (D.faults depot.old) (D.faults depot.new) result }
     ensures calm { IsTrue (D.calm depot.old) → IsErrOf result Trouble.Failed → ⊥ }
-    ensures files_kept { D.files depot.new ≡ D.files depot.old }
+    ensures reads { OnlyReads 2 (depot_change ⟦<D as Depot>⟧ depot.old depot.new) }
 {
     let Some(first_size) = depot.size(first)? else {
         return Ok(None);
@@ -40,20 +41,16 @@ fn read_two<D: Depot>(
 }
 
 // What a caller learns of two pieces that it writes one after the other.
-#[tactic(auto, using(crate::specs::Growth::growth))]
+#[tactic(auto, using(crate::specs::FramesRules::frames))]
 fn write_two<K: Sink>(sink: &mut K, first: &[u8], second: &[u8]) -> Result<(), Trouble>
-    ensures ok { OnOk result (GrewBy (K.written sink.old) (K.written sink.new) (first.now ++ second.now)) }
-    ensures err { OnErr result (GrewByPrefix (K.written sink.old) (K.written sink.new) (first.now ++ second.now)) }
-    ensures fault { HasCause Trouble.Failed (K.faults sink.old) (K.faults sink.new) result }
-    ensures lack { HasCause Trouble.Memory (K.lacks sink.old) (K.lacks sink.new) result }
+    ensures { Writes (first.now ++ second.now) (sink_change ⟦<K as Sink>⟧ sink.old sink.new) result }
 {
     sink.write(first)?;
-    sink.write(second)?;
-    Ok(())
+    sink.write(second)
 }
 
 // What a caller learns of a file that it writes in two pieces.
-#[tactic(auto, using(crate::specs::Changes::changes))]
+#[tactic(auto, using(crate::specs::ChangesRules::changes))]
 fn write_file<D: Depot>(
     depot: &mut D,
     name: &str,
@@ -63,7 +60,7 @@ fn write_file<D: Depot>(
     ensures ok { OnOk result (D.files depot.new ≡ with_file (D.files depot.old) name.now (first.now ++ second.now)) }
     ensures err { OnErr result ((D.files depot.new ≡ D.files depot.old)
         ⊎ HoldsPrefix (D.files depot.old) (D.files depot.new) name.now (first.now ++ second.now)) }
-    ensures cause { HasCause Trouble.Failed (D.faults depot.old) (D.faults depot.new) result }
+    ensures cause { HasExactCause Trouble.Failed (D.faults depot.old) (D.faults depot.new) result }
     ensures write_cause { HasCause Trouble.Failed (D.write_faults depot.old) (D.write_faults depot.new) result }
     ensures reads_kept { D.reads depot.new ≡ D.reads depot.old }
 {

@@ -41,6 +41,7 @@ impl<R: Files + Drop> FileDepot<R> {
         ensures write_faults { self.new.write_faults ≡ self.old.write_faults }
         ensures later { self.old.faults ≤ self.new.faults }
         ensures failed { result ≡ Trouble.Failed → Rose self.old.faults self.new.faults }
+        ensures kept { (result ≡ Trouble.Failed → ⊥) → self.new.faults ≡ self.old.faults }
     {
         if error.kind() == ErrorKind::OutOfMemory {
             return Trouble::Memory;
@@ -55,6 +56,7 @@ impl<R: Files + Drop> FileDepot<R> {
         ensures later { self.old.faults ≤ self.new.faults }
         ensures write_later { self.old.write_faults ≤ self.new.write_faults }
         ensures failed { result ≡ Trouble.Failed → Rose self.old.faults self.new.faults }
+        ensures kept { (result ≡ Trouble.Failed → ⊥) → self.new.faults ≡ self.old.faults }
         ensures write_failed { result ≡ Trouble.Failed → Rose self.old.write_faults self.new.write_faults }
     {
         let trouble = self.count_fault(error);
@@ -102,7 +104,7 @@ impl<R: Files + Drop> FileDepot<R> {
     }
 }
 
-#[tactic(auto, using(crate::specs::Changes::changes))]
+#[tactic(auto, using(crate::specs::ChangesRules::changes))]
 impl<R: Files + Drop> Depot for FileDepot<R> {
     ghost files = { λ _. None };
 

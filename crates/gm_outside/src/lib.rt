@@ -18,5 +18,5 @@ pub use gates::OpenGate;
 pub use mem_depot::{Call, MemDepot};
 pub use mem_sink::MemSink;
 pub use reading::read_whole;
-pub use traits::{Depot, Gate, Sink, Trouble};
+pub use traits::{Depot, Gate, MAX_COUNT, Sink, Trouble};
 pub use write_sink::WriteSink;

@@ -3,7 +3,7 @@ ghost use Rattle.std.specs.Prelude.{◌≡◌, ◌↔◌, ◌≤◌, [], IsSome,
 ghost use Rattle.std.specs.Option.{option_copied};
 ghost use Rattle.std.specs.FinMap as map;
 ghost use Rattle.gm_outside.specs.Changes.{append_to, with_file, with_appended, AppendedPrefix};
-ghost use Rattle.gm_outside.specs.Causes.{counted, HasCause};
+ghost use Rattle.gm_outside.specs.Causes.{counted, HasCause, HasExactCause};
 ghost use Rattle.gm_outside.specs.Files.{Files, size_of, HasRange, HasBytesAt};
 
 use crate::file_list::FileList;
@@ -152,7 +152,7 @@ impl MemDepot {
     }
 }
 
-#[tactic(auto, using(crate::specs::Changes::changes))]
+#[tactic(auto, using(crate::specs::ChangesRules::changes))]
 impl Depot for MemDepot {
     ghost use Rattle.gm_outside.specs.Memory.{is_calm};
 
@@ -172,7 +172,7 @@ impl Depot for MemDepot {
         ensures fails { IsErr result ↔ Contains self.old.fails (Call.Size, counted self.old.sizes) }
         ensures ok { IfOk result (λ size. size ≡ size_of self.old.files name.now) }
         ensures err { IfErr result (λ trouble. trouble ≡ Trouble.Failed) }
-        ensures cause { HasCause Trouble.Failed self.old.faults self.new.faults result }
+        ensures cause { HasExactCause Trouble.Failed self.old.faults self.new.faults result }
         ensures after { self.new ≡ record self.old {
           sizes = counted self.old.sizes;
           faults = if is_ok result then self.old.faults else counted self.old.faults;
@@ -192,7 +192,7 @@ impl Depot for MemDepot {
         ensures works { HasRange self.old.files name.now pos (length into.old)
             → (Contains self.old.fails (Call.Read, counted self.old.reads) → ⊥) → IsOk result }
         ensures err { IfErr result (λ trouble. trouble ≡ Trouble.Failed) }
-        ensures cause { HasCause Trouble.Failed self.old.faults self.new.faults result }
+        ensures cause { HasExactCause Trouble.Failed self.old.faults self.new.faults result }
         ensures after { self.new ≡ record self.old {
           reads = counted self.old.reads;
           faults = if is_ok result then self.old.faults else counted self.old.faults;
@@ -225,7 +225,7 @@ impl Depot for MemDepot {
           write_faults = counted self.old.write_faults;
         } }
         ensures memory { IsErrOf result Trouble.Memory → self.new ≡ record self.old { creates = counted self.old.creates } }
-        ensures cause { HasCause Trouble.Failed self.old.faults self.new.faults result }
+        ensures cause { HasExactCause Trouble.Failed self.old.faults self.new.faults result }
         ensures write_cause { HasCause Trouble.Failed self.old.write_faults self.new.write_faults result }
     {
         let number = self.creates.saturating_add(1);
@@ -255,7 +255,7 @@ impl Depot for MemDepot {
           write_faults = counted self.old.write_faults;
         } }
         ensures memory { IsErrOf result Trouble.Memory → self.new ≡ record self.old { appends = counted self.old.appends } }
-        ensures cause { HasCause Trouble.Failed self.old.faults self.new.faults result }
+        ensures cause { HasExactCause Trouble.Failed self.old.faults self.new.faults result }
         ensures write_cause { HasCause Trouble.Failed self.old.write_faults self.new.write_faults result }
     {
         let number = self.appends.saturating_add(1);

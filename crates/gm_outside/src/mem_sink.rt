@@ -1,7 +1,7 @@
 //! A sink in memory, whose writes fail exactly where they are told to.
 ghost use Rattle.std.specs.Prelude.{◌≡◌, ◌≢◌, ◌++◌, [], ℕ, Some, IsNone, IsOk, IsSomeAnd, OnOk, OnErr, IsErrOf, take, min, find, nat_eq, unwrap_or};
 ghost use Rattle.std.specs.Option.{option_map};
-ghost use Rattle.gm_outside.specs.Causes.{counted, HasCause};
+ghost use Rattle.gm_outside.specs.Causes.{counted, HasCause, HasExactCause};
 ghost use Rattle.gm_outside.specs.Growth.{GrewBy, GrewByPrefix};
 
 use crate::traits::{Sink, Trouble};
@@ -84,7 +84,7 @@ impl Sink for MemSink {
 
     ghost lacks = { λ sink. sink.lacks };
 
-    #[tactic(auto, using(crate::specs::Growth::growth))]
+    #[tactic(auto, using(crate::specs::GrowthRules::growth))]
     fn write(&mut self, piece: &[u8]) -> Result<(), Trouble>
         ensures empty { piece.now ≡ [] → IsOk result }
         ensures nothing { piece.now ≡ [] → self.new ≡ self.old }
@@ -104,7 +104,7 @@ impl Sink for MemSink {
           writes = counted self.old.writes;
           lacks = counted self.old.lacks;
         } }
-        ensures fault { HasCause Trouble.Failed self.old.faults self.new.faults result }
+        ensures fault { HasExactCause Trouble.Failed self.old.faults self.new.faults result }
         ensures lack { HasCause Trouble.Memory self.old.lacks self.new.lacks result }
     {
         if piece.is_empty() {

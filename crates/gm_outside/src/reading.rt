@@ -1,8 +1,10 @@
 //! Reading the front of a file, from any depot.
-ghost use Rattle.std.specs.Prelude.{◌≡◌, ◌⊎◌, ◌≤◌, length, take, IsTrue, IsErrOf, IfSome, IfOk, IsSomeAnd, vec_len};
+ghost use Rattle.std.specs.Prelude.{◌≡◌, ◌≤◌, length, take, IsTrue, IsErrOf, IfSome, IfOk, IsSomeAnd, vec_len};
 ghost use Rattle.std.specs.FinMap as map;
-ghost use Rattle.gm_outside.specs.Causes.{counted, HasCause};
+ghost use Rattle.gm_outside.specs.Causes.{counted, HasExactCause};
 ghost use Rattle.gm_outside.specs.Files.{HasRange};
+ghost use Rattle.gm_outside.specs.Frames.{OnlyReads};
+ghost use Rattle.gm_outside.specs.Calls.{depot_change};
 
 use crate::traits::{Depot, Trouble};
 use std::alloc::{AllocError, Global};
@@ -19,16 +21,12 @@ pub fn read_whole<D: Depot>(
     ensures size { IfOk result (λ bytes. vec_len bytes ≡ size) }
     ensures bytes { IfSome (D.files depot.old) (λ files. IfOk result (λ bytes. IsSomeAnd (map.get files name.now)
         (λ held. (size ≤ length held) × (bytes.items ≡ take size held)))) }
-    ensures cause { HasCause Trouble.Failed (D.faults depot.old) (D.faults depot.new) result }
+    ensures cause { HasExactCause Trouble.Failed (D.faults depot.old) (D.faults depot.new) result }
     ensures calm { IsTrue (D.calm depot.old)
         → IfSome (D.files depot.old) (λ files. HasRange files name.now 0 size
         → IsErrOf result Trouble.Failed → ⊥) }
-
-    ensures files_kept { D.files depot.new ≡ D.files depot.old }
-    ensures calm_kept { D.calm depot.new ≡ D.calm depot.old }
-    ensures write_faults_kept { D.write_faults depot.new ≡ D.write_faults depot.old }
-    ensures reads { (IsErrOf result Trouble.Memory → ⊥) → D.reads depot.new ≡ counted (D.reads depot.old) }
-    ensures reads_at_most { (D.reads depot.new ≡ D.reads depot.old) ⊎ (D.reads depot.new ≡ counted (D.reads depot.old)) }
+    ensures reads { OnlyReads 1 (depot_change ⟦<D as Depot>⟧ depot.old depot.new) }
+    ensures one_read { (IsErrOf result Trouble.Memory → ⊥) → D.reads depot.new ≡ counted (D.reads depot.old) }
 {
     let mut bytes = zeros(alloc, size as usize)?;
     depot.read_at(name, 0, &mut bytes)?;

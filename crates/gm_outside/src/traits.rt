@@ -2,12 +2,15 @@
 ghost use Rattle.std.specs.Prelude.{◌≡◌, ◌⊎◌, ℕ, Bool, List, [], Option, length, IsTrue, IsSome, IsOk, IfSome, IfOk, OnOk, OnErr, IsErrOf};
 ghost use Rattle.std.specs.FinMap as map;
 ghost use Rattle.gm_outside.specs.Changes.{with_file, with_appended, AppendedPrefix};
-ghost use Rattle.gm_outside.specs.Causes.{counted, HasCause};
+ghost use Rattle.gm_outside.specs.Causes.{counted, HasCause, HasExactCause};
 ghost use Rattle.gm_outside.specs.Files.{Files, size_of, HasRange, HasBytesAt};
-ghost use Rattle.gm_outside.specs.Growth.{GrewBy, GrewByPrefix};
+ghost use Rattle.gm_outside.specs.Frames.{SinkChange, Writes};
 ghost use Rattle.gm_outside.specs.declared.traits.Trouble.TheVariants.{Memory};
 
 use std::alloc::AllocError;
+
+/// Where the counts of calls and faults end.
+pub const MAX_COUNT: u64 = u64::MAX;
 
 /// Why a call on the outside gave up.
 #[derive(Clone, Copy, Debug, PartialEq, Eq)]
@@ -30,7 +33,7 @@ impl From<AllocError> for Trouble {
 ///
 /// `files` are the files, where the depot tells them. A `calm` depot tells them and never fails
 /// without a reason that they show. `faults` counts failures, `write_faults` those of `create` and
-/// `append`, and `reads` the calls of `read_at`; each stops at the end of a `u64`.
+/// `append`, and `reads` the calls of `read_at`; each stops at [`MAX_COUNT`]. A call that doesn't fail leaves `faults` as they were.
 pub trait Depot: Drop {
     ghost files: { Self → Option Files };
 
@@ -45,7 +48,7 @@ pub trait Depot: Drop {
     /// The length of a file in bytes, or `None` where there is no such file.
     fn size(&mut self, name: &str) -> Result<Option<u64>, Trouble>
         ensures size { IfSome (files self.old) (λ held. IfOk result (λ size. size ≡ size_of held name.now)) }
-        ensures cause { HasCause Trouble.Failed (faults self.old) (faults self.new) result }
+        ensures cause { HasExactCause Trouble.Failed (faults self.old) (faults self.new) result }
         ensures calm { IsTrue (calm self.old) → IsErrOf result Trouble.Failed → ⊥ }
         ensures files_kept { files self.new ≡ files self.old }
         ensures calm_kept { calm self.new ≡ calm self.old }
@@ -58,7 +61,7 @@ pub trait Depot: Drop {
     /// After a refusal `into` may hold anything.
     fn read_at(&mut self, name: &str, pos: u64, into: &mut [u8]) -> Result<(), Trouble>
         ensures bytes { IfSome (files self.old) (λ held. OnOk result (HasBytesAt held name.now pos into.new)) }
-        ensures cause { HasCause Trouble.Failed (faults self.old) (faults self.new) result }
+        ensures cause { HasExactCause Trouble.Failed (faults self.old) (faults self.new) result }
         ensures calm { IsTrue (calm self.old)
             → IfSome (files self.old) (λ held. HasRange held name.now pos (length into.old)
             → IsErrOf result Trouble.Failed → ⊥) }
@@ -73,7 +76,7 @@ pub trait Depot: Drop {
         ensures ok { OnOk result (files self.new ≡ with_file (files self.old) name.now []) }
         ensures err { OnErr result ((files self.new ≡ files self.old)
             ⊎ (files self.new ≡ with_file (files self.old) name.now [])) }
-        ensures cause { HasCause Trouble.Failed (faults self.old) (faults self.new) result }
+        ensures cause { HasExactCause Trouble.Failed (faults self.old) (faults self.new) result }
         ensures write_cause { HasCause Trouble.Failed (write_faults self.old) (write_faults self.new) result }
         ensures calm { IsTrue (calm self.old) → IsErrOf result Trouble.Failed → ⊥ }
         ensures calm_kept { calm self.new ≡ calm self.old }
@@ -85,7 +88,7 @@ pub trait Depot: Drop {
         ensures there { IfSome (files self.old) (λ held. OnOk result (IsSome (map.get held name.now))) }
         ensures ok { OnOk result (files self.new ≡ with_appended (files self.old) name.now bytes.now) }
         ensures err { OnErr result (AppendedPrefix (files self.old) (files self.new) name.now bytes.now) }
-        ensures cause { HasCause Trouble.Failed (faults self.old) (faults self.new) result }
+        ensures cause { HasExactCause Trouble.Failed (faults self.old) (faults self.new) result }
         ensures write_cause { HasCause Trouble.Failed (write_faults self.old) (write_faults self.new) result }
         ensures calm { IsTrue (calm self.old)
             → IfSome (files self.old) (λ held. IsSome (map.get held name.now)
@@ -99,7 +102,7 @@ pub trait Depot: Drop {
 /// A place for bytes that are written one after the other.
 ///
 /// `written` are the bytes that it holds, where it tells them. `faults` counts failures and `lacks`
-/// the pieces that found no memory; both stop at the end of a `u64`.
+/// the pieces that found no memory; both stop at [`MAX_COUNT`]. A call that doesn't fail leaves `faults` as they were.
 pub trait Sink {
     ghost written: { Self → Option (List ℕ) };
 
@@ -109,10 +112,14 @@ pub trait Sink {
 
     /// Adds a piece, or after a refusal only some first bytes of it. An empty piece is never refused.
     fn write(&mut self, piece: &[u8]) -> Result<(), Trouble>
-        ensures ok { OnOk result (GrewBy (written self.old) (written self.new) piece.now) }
-        ensures err { OnErr result (GrewByPrefix (written self.old) (written self.new) piece.now) }
-        ensures fault { HasCause Trouble.Failed (faults self.old) (faults self.new) result }
-        ensures lack { HasCause Trouble.Memory (lacks self.old) (lacks self.new) result }
+        ensures writes { Writes piece.now (record {
+          held = written self.old;
+          holds = written self.new;
+          faults = faults self.old;
+          faults_now = faults self.new;
+          lacks = lacks self.old;
+          lacks_now = lacks self.new;
+        }) result }
         ensures empty { piece.now ≡ [] → IsOk result };
 }
 

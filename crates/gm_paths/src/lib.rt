@@ -1,10 +1,8 @@
 //! The kernels of the jobs that look for paths from a source: breadth-first levels and shortest distances.
 #![tactic(auto)]
 
-mod breadth_first;
-mod shortest;
+mod paths;
 #[cfg(test)]
 mod tests;
 
-pub use breadth_first::Bfs;
-pub use shortest::Sssp;
+pub use paths::{Bfs, Paths, Sssp};

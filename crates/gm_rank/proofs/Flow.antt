@@ -5,10 +5,13 @@ use Rattle.std.specs.List.{fold, range_with_len, AllByRecursion}
 use Rattle.std.proofs.Math.Nat.{mul-div-le}
 use Rattle.std.proofs.lemmas.List.Elements.{recursion_from_All}
 use Rattle.std.proofs.lemmas.List.Sums.{sum_by-cons, sum_by-append}
+use Rattle.gm_base.specs.declared.limits.TheConstants.{MAX_VERTICES}
 use Rattle.gm_base.specs.declared.edge.Edge.{Edge}
 use Rattle.gm_base.specs.Graph.{HasEndsBelow, IsGraph, out_degree}
-use Rattle.gm_base.specs.Kernels.{Kernel, kernel_of, share_of, rank_cap}
-use Rattle.gm_base.specs.Runs.{gifts_to, gifts_of_edge, value_after_round, round_of, values_after}
+use Rattle.gm_kernel.specs.declared.kernel.TheConstants.{MAX_RANK}
+use Rattle.gm_kernel.specs.Kernels.{Kernel, kernel_of, share_of}
+use Rattle.gm_kernel.specs.Runs.{gifts_to, gifts_of_edge, value_after_round, round_of, values_after}
+use Rattle.gm_kernel.specs.RunsRules.{length-values_after}
 use Rattle.gm_rank.specs.Ranks.{rank_job}
 use Rattle.gm_rank.proofs.Totals.{total, total-add, total-scale, total-le, total_constant, total_one, term-le-total, sum_of_range, sum_by_vertex}
 
@@ -38,25 +41,25 @@ joined-le degree_of values (e ∷ edges) v s =
     let goal = λ (b : Bool). fold rank_kernel.join_values s ((cond b (w e.from ∷ []) [] ++ []) ++ rest) ≤ s + (cond b (w e.from) 0 + given w edges v) in
     let at : (b : Bool) → goal b =
     elim [
-      | true ↦ let ih = joined-le degree_of values edges v (min (s + w e.from) rank_cap) in omega arith
+      | true ↦ let ih = joined-le degree_of values edges v (min (s + w e.from) MAX_RANK) in omega arith
       | false ↦ let ih = joined-le degree_of values edges v s in omega arith
     ] in
     at (eqb e.to v)
 
 -- and it is the sum, where that is within the cap
 joined-within : (degree_of : ℕ → ℕ) (values : List ℕ) (edges : List Edge) (v s : ℕ)
-    → s + given (shares degree_of values) edges v ≤ rank_cap
+    → s + given (shares degree_of values) edges v ≤ MAX_RANK
     → fold rank_kernel.join_values s (gifts_to rank_kernel degree_of values edges v) ≡ s + given (shares degree_of values) edges v
 joined-within degree_of values [] v s h = omega arith
 joined-within degree_of values (e ∷ edges) v s h =
     let w = shares degree_of values in
     let rest = gifts_to rank_kernel degree_of values edges v in
-    let goal = λ (b : Bool). s + (cond b (w e.from) 0 + given w edges v) ≤ rank_cap
+    let goal = λ (b : Bool). s + (cond b (w e.from) 0 + given w edges v) ≤ MAX_RANK
     → fold rank_kernel.join_values s ((cond b (w e.from ∷ []) [] ++ []) ++ rest) ≡ s + (cond b (w e.from) 0 + given w edges v) in
     let at : (b : Bool) → goal b =
     elim [
       | true ↦ λ small.
-          let plain : min (s + w e.from) rank_cap ≡ s + w e.from = omega arith in
+          let plain : min (s + w e.from) MAX_RANK ≡ s + w e.from = omega arith in
           let ih = joined-within degree_of values edges v (s + w e.from) (omega arith) in
           ap (λ t. fold rank_kernel.join_values t rest) plain ∙ ih ∙ omega arith
       | false ↦ λ small. let ih = joined-within degree_of values edges v s (omega arith) in ih ∙ omega arith
@@ -137,19 +140,15 @@ round-le n values edges long ends =
     let uncapped = uncapped-le n values edges long ends in
     omega arith
 
--- there is a rank for each vertex after any number of rounds
-abbrev pub HasRanks : ℕ → List Edge → Type 0
-HasRanks n edges = (rounds : ℕ) → length (values_after rank_kernel n edges rounds) ≡ n
-
-pub sum-values_after : (n : ℕ) (edges : List Edge) (rounds : ℕ) → HasRanks n edges → IsGraph n edges
+pub sum-values_after : (n : ℕ) (edges : List Edge) (rounds : ℕ) → IsGraph n edges
     → sum (values_after rank_kernel n edges rounds) ≤ n * 1000000000
 unfolding values_after
-sum-values_after n edges zero long graph =
+sum-values_after n edges zero graph =
     let start : sum (map rank_kernel.initial_value (range_with_len 0 n)) ≡ n * 1000000000 = sum_of_range rank_kernel.initial_value n ∙ total_constant 1000000000 n in
     omega arith
-sum-values_after n edges (suc rounds) long graph =
-    let before = sum-values_after n edges rounds long graph in
-    let round = round-le n (values_after rank_kernel n edges rounds) edges (long rounds) (recursion_from_All (HasEndsBelow n) edges graph) in
+sum-values_after n edges (suc rounds) graph =
+    let before = sum-values_after n edges rounds graph in
+    let round = round-le n (values_after rank_kernel n edges rounds) edges (length-values_after rank_kernel n edges rounds) (recursion_from_All (HasEndsBelow n) edges graph) in
     omega arith
 
 gift_sum : (degree_of : ℕ → ℕ) (values : List ℕ) (edges : List Edge) (v : ℕ)
@@ -162,14 +161,14 @@ gift_sum degree_of values (e ∷ edges) v =
     sum_by-append (λ x. x) (gifts_of_edge rank_kernel degree_of values v e) rest
     ∙ ap (λ t. t + sum rest) (one (eqb e.to v)) ∙ ap (λ t. cond (eqb e.to v) (w e.from) 0 + t) (gift_sum degree_of values edges v)
 
-pub plain_sum : (n : ℕ) (edges : List Edge) (rounds v : ℕ) → HasRanks n edges → n ≤ 1048576 → IsGraph n edges → v < n
+pub plain_sum : (n : ℕ) (edges : List Edge) (rounds v : ℕ) → n ≤ MAX_VERTICES → IsGraph n edges → v < n
     → value_after_round rank_kernel edges (values_after rank_kernel n edges rounds) v
     ≡ 150000000 + sum (gifts_to rank_kernel (out_degree edges) (values_after rank_kernel n edges rounds) edges v)
-plain_sum n edges rounds v long small graph within =
+plain_sum n edges rounds v small graph within =
     let values = values_after rank_kernel n edges rounds in
     let w = shares (out_degree edges) values in
-    let before = sum-values_after n edges rounds long graph in
-    let uncapped = uncapped-le n values edges (long rounds) (recursion_from_All (HasEndsBelow n) edges graph) in
+    let before = sum-values_after n edges rounds graph in
+    let uncapped = uncapped-le n values edges (length-values_after rank_kernel n edges rounds) (recursion_from_All (HasEndsBelow n) edges graph) in
     let one : 150000000 + given w edges v ≤ total (λ u. 150000000 + given w edges u) n = term-le-total (λ u. 150000000 + given w edges u) n v within in
     joined-within (out_degree edges) values edges v 150000000 (omega arith)
     ∙ ap (λ t. 150000000 + t) (sym (gift_sum (out_degree edges) values edges v))

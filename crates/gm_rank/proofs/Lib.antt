@@ -1,4 +1,3 @@
-pub mod Fractions
-pub mod Sharing
+pub mod ShareLemmas
 pub mod Totals
 pub mod Flow

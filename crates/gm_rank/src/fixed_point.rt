@@ -1,14 +1,41 @@
 //! Ranks in units of 1 / 1,000,000,000.
 
-use crate::shares::{join, share};
-use gm_base::Spec;
-use gm_kernel::Kernel;
+ghost use Rattle.std.specs.Prelude.{◌≡◌, ◌+◌, ◌*◌, ◌/◌, min};
+ghost use Rattle.gm_kernel.specs.Kernels.{share_of};
+
+use gm_kernel::{Kernel, MAX_RANK};
 
 /// What each vertex begins with: a rank of 1.
 const ONE: u64 = 1_000_000_000;
 
 /// What each vertex carries into a round: 0.15 of a rank of 1.
 const CARRIED: u64 = 150_000_000;
+
+/// 0.85 of a rank over the out-degree, rounded down, or 0 without edges. 0.85 is 17 / 20; a rank whose product with 17 wouldn't fit
+/// is first divided, which rounds the same.
+#[inline(always)]
+#[tactic(auto, using(crate::proofs::ShareLemmas::share_reduced, crate::proofs::ShareLemmas::divided_first))]
+pub(crate) fn share(rank: u64, degree: u32) -> u64
+    ensures { result ≡ share_of rank degree }
+{
+    if degree == 0 {
+        return 0;
+    }
+    let divisor = 20 * u64::from(degree);
+    if rank <= u64::MAX / 17 {
+        17 * rank / divisor
+    } else {
+        17 * (rank / divisor) + 17 * (rank % divisor) / divisor
+    }
+}
+
+/// Two sums of shares, at most `MAX_RANK`.
+#[inline(always)]
+pub(crate) fn join(a: u64, b: u64) -> u64
+    ensures { result ≡ min (a + b) MAX_RANK }
+{
+    a.saturating_add(b).min(MAX_RANK)
+}
 
 /// Ranks: over each edge a vertex gives an equal share of 0.85 of its rank. A job makes so many rounds.
 #[derive(Clone, Copy)]
@@ -17,15 +44,15 @@ pub struct Rank {
 }
 
 impl Kernel for Rank {
-    ghost use Rattle.gm_base.specs.Kernels.{kernel_of};
-    ghost use Rattle.gm_kernel.specs.Activity.{activity_of};
-    ghost use Rattle.gm_rank.specs.Ranks.{rank_job, rank_laws};
+    ghost use Rattle.std.specs.Prelude.{refl};
+    ghost use Rattle.gm_base.specs.declared.job.Spec.TheVariants.{Rank as RankJob};
+    ghost use Rattle.gm_kernel.specs.Kernels.{kernel_of};
 
-    ghost functions = { λ _. kernel_of rank_job };
+    ghost job = { λ kernel. RankJob kernel.rounds };
 
-    ghost is_active = { λ _. activity_of rank_job };
+    ghost functions = { λ kernel. kernel_of (RankJob kernel.rounds) };
 
-    ghost laws = { λ _. rank_laws };
+    ghost is_of_its_job = { λ _. refl };
 
     fn init(&self, _v: u32) -> u64 {
         ONE
@@ -50,16 +77,4 @@ impl Kernel for Rank {
     fn two_way(&self) -> bool {
         false
     }
-}
-
-impl Rank {
-    ghost use Rattle.std.specs.Prelude.{◌≡◌, ℕ};
-    ghost use Rattle.gm_base.specs.Kernels.{kernel_of};
-    ghost use Rattle.gm_kernel.specs.Activity.{activity_of};
-
-    /// A law: it is the kernel of a rank job, whatever its number of rounds.
-    pub fn is_of_its_job(&self)
-        ensures functions { (rounds : ℕ) → ⟦<Rank as Kernel>⟧.functions self.now ≡ kernel_of (Spec.Rank rounds) }
-        ensures activity { (rounds : ℕ) → ⟦<Rank as Kernel>⟧.is_active self.now ≡ activity_of (Spec.Rank rounds) }
-    {}
 }

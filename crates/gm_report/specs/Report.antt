@@ -1,18 +1,10 @@
 -- The text of a report: the lines of each job.
-use Rattle.std.specs.Prelude.{ℕ, ◌==◌, if◌then◌else◌, List, [], ◌∷◌, ◌++◌, codes, decimal}
+use Rattle.std.specs.Prelude.{ℕ, List, [], ◌++◌, codes, decimal}
 use Rattle.std.specs.List.{flat_map, enumerate_from}
 use Rattle.gm_base.specs.declared.job.Outcome.{Outcome}
 use Rattle.gm_base.specs.declared.job.Outcome.TheVariants.{Done, Rounds, Read, Changed, Memory}
 use Rattle.gm_base.specs.declared.job.JobLine.{JobLine}
-use Rattle.gm_base.specs.Kernels.{top}
-
--- the end of a line
-abbrev pub end_of_line : List ℕ
-end_of_line = 10 ∷ []
-
--- a value, and a dash for a vertex that isn't reached
-abbrev pub value_text : ℕ → List ℕ
-value_text value = if value == top then codes "-" else decimal value
+use Rattle.gm_output.specs.Lines.{end_of_line, value_text}
 
 -- a vertex and its value
 abbrev pub value_line : ℕ × ℕ → List ℕ

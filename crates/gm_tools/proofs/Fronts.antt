@@ -1,25 +1,24 @@
 -- What a reader has read of a file, and what follows of its answers.
-use Rattle.std.proofs.Common.{◌≡◌, ℕ, ◌+◌, ◌≤◌, List, ◌++◌, length, take, drop, Option, Some, None, Ok, Err, IfSome, refl, sym, ap, subst, ◌∙◌, append_assoc, []}
-use Rattle.std.specs.Prelude.{IsSomeAnd, is_none, if◌then◌else◌}
+use Rattle.std.proofs.Common.{◌≡◌, ℕ, ◌+◌, ◌-◌, ◌*◌, ◌/◌, ◌%◌, ◌≤◌, ◌<◌, List, ◌++◌, length, take, drop, min, Option, Some, None, Ok, Err, IfSome, refl, sym, ap, subst, ◌∙◌, append_assoc, [], arith, rules, inl, inr, lit<}
+use Rattle.std.specs.Prelude.{IsSomeAnd, IsOk, Result}
 use Rattle.std.specs.Option.{option_map}
 use Rattle.std.specs.FinMap.{get}
-use Rattle.std.proofs.lemmas.List.{take-append-drop}
+use Rattle.std.proofs.lemmas.Bool.{cases_lt}
+use Rattle.std.proofs.lemmas.List.{take-append-drop, take_all}
+use Rattle.std.proofs.lemmas.Grind.{div_ceil_times}
 use Rattle.std.proofs.Math.Seq.{take-add, take-length}
 use Rattle.gm_base.specs.declared.edge.Edge.{Edge}
 use Rattle.gm_outside.specs.Files.{Files, size_of, HasBytesAt}
-use Rattle.gm_edges.specs.declared.error.EdgeError.{EdgeError}
-use Rattle.gm_edges.specs.declared.error.EdgeError.TheVariants.{BadLine, NoVertex, TooManyEdges, Memory}
-use Rattle.gm_edges.specs.EdgeText.{edge_list_of}
-use Rattle.gm_edges.specs.Scanner.{ReaderState, HasRead, IsUnlessMemory}
-use Rattle.gm_commands.specs.declared.operand.Operand.TheVariants.{Edges}
-use Rattle.gm_commands.specs.declared.failure.Refusal.{Refusal}
-use Rattle.gm_commands.specs.declared.failure.Refusal.TheVariants.{NoSuchFile}
-use Rattle.gm_commands.specs.declared.failure.Failure.{Failure}
-use Rattle.gm_commands.specs.declared.failure.Failure.TheVariants.{Refused, ReadFailed, WriteFailed, OutputFailed, OutOfMemory}
-use Rattle.gm_commands.specs.Endings.{DepotChange, AreTaken}
-use Rattle.gm_commands.specs.FileSizes.{missing, HasNoSize}
-use Rattle.gm_tools.specs.EdgeFiles.{failure_of, refusal_in, text_refusal, edges_refusal, IsEdgesRefusal, EndsReading}
-use Rattle.gm_tools.specs.Readings.{ListsEdges, IsFront, HasReadFront}
+use Rattle.gm_outside.specs.Frames.{DepotChange}
+use Rattle.gm_edges.specs.declared.edge_error.EdgeError.{EdgeError}
+use Rattle.gm_edges.specs.declared.edge_error.EdgeListRefusal.{EdgeListRefusal}
+use Rattle.gm_edges.specs.EdgeText.{edge_list_of, ended_edges_of}
+use Rattle.gm_edges.specs.EdgeErrors.{refusal_of, IsRefusalUnlessMemory}
+use Rattle.gm_edges.specs.ReaderStates.{ReaderState, HasRead}
+use Rattle.gm_commands.specs.declared.failure.Refusal.TheVariants.{EdgeList}
+use Rattle.gm_commands.specs.Readings.{DepotServed, IsReadingFailure}
+use Rattle.gm_tools.specs.declared.edge_reading.TheConstants.{TEXT_PIECE}
+use Rattle.gm_tools.specs.EdgeReadings.{list_refusal, edges_refusal, refusal_before_piece, edges_reading, failure_by, failure_of, ListsEdges, IsFront, HasReadFront, AreLinesTaken}
 
 -- nothing is read of a file of this size
 start_of : (size : ℕ) (found : Option (List ℕ)) → Some size ≡ option_map length found
@@ -36,6 +35,17 @@ pub front_at_start : (n size : ℕ) (files : Option Files) (name : List ℕ) (re
     → IfSome files (λ held. Some size ≡ size_of held name) → HasRead n [] reader → HasReadFront n files name size 0 reader
 front_at_start n size files name reader sized read = record { text = []; read = read; front = start_in size files name sized }
 
+-- no line has ended before the first byte
+lines_at_start_of : (n size : ℕ) (found : Option (List ℕ)) → Some size ≡ option_map length found
+    → IsSomeAnd found (λ text. IsOk (ended_edges_of (take 0 text) n))
+lines_at_start_of n size None e = cc
+lines_at_start_of n size (Some bytes) e = refl
+
+pub lines_at_start : (n size : ℕ) (files : Option Files) (name : List ℕ) → IfSome files (λ held. Some size ≡ size_of held name)
+    → AreLinesTaken n files name 0
+lines_at_start n size None name sized = tt
+lines_at_start n size (Some held) name sized = lines_at_start_of n size (get held name) sized
+
 -- a piece behind what was read
 more_of : (size pos : ℕ) (text piece : List ℕ) (found : Option (List ℕ))
     → IsSomeAnd found (λ bytes. (pos + length piece ≤ length bytes) × (piece ≡ take (length piece) (drop pos bytes)))
@@ -45,62 +55,51 @@ more_of size pos text piece None there front = front
 more_of size pos text piece (Some bytes) there front =
     (front.0, (λ i. front.1 i ++ there.1 i) ∙ sym (take-add pos (length piece) bytes))
 
-more_in : (size pos : ℕ) (text piece : List ℕ) (files : Option Files) (name : List ℕ) → IfSome files (λ held. HasBytesAt held name pos piece)
-    → IfSome files (λ held. IsFront held name size pos text) → IfSome files (λ held. IsFront held name size (pos + length piece) (text ++ piece))
-more_in size pos text piece None name there front = tt
-more_in size pos text piece (Some held) name there front = more_of size pos text piece (get held name) there front
-
-pub front_on : (n size pos : ℕ) (files : Option Files) (name piece : List ℕ) (old new : ReaderState)
-    → IfSome files (λ held. HasBytesAt held name pos piece)
-    → ((m : ℕ) (text : List ℕ) → HasRead m text old → HasRead m (text ++ piece) new)
-    → HasReadFront n files name size pos old → HasReadFront n files name size (pos + length piece) new
-front_on n size pos files name piece old new there reads before =
-    record {
-      text = before.text ++ piece;
-      read = reads n before.text before.read;
-      front = more_in size pos before.text piece files name there before.front;
-    }
-
--- the file is there, and a reader of it is refused in this way
-abbrev Refuses : ℕ → List ℕ → EdgeError → Files → Type 0
-Refuses n name refusal held = (text : List ℕ) × (get held name ≡ Some text) × IsUnlessMemory {A = List Edge} (Err refusal) (edge_list_of text n)
-
-refused_with : (n : ℕ) (name text : List ℕ) (held : Files) (refusal : EdgeError) → get held name ≡ Some text
-    → edge_list_of text n ≡ Err refusal → edges_refusal n name held ≡ refusal_in (Err refusal)
-unfolding edges_refusal
-refused_with n name text held refusal is e = ap (text_refusal n) is ∙ ap refusal_in e
-
-pub refused_as : (n : ℕ) (name : List ℕ) (depot : DepotChange) (refusal : EdgeError)
-    → IfSome depot.files (Refuses n name refusal) → EndsReading n name depot (failure_of refusal)
-refused_as n name depot (BadLine line) r = (tt, refused_in_files n depot.files name r)
-  where
-    refused_in_files : (n : ℕ) (files : Option Files) (name : List ℕ) → IfSome files (Refuses n name (BadLine line))
-        → IfSome files (λ held. edges_refusal n name held ≡ refusal_in (Err (BadLine line)))
-    refused_in_files n None name r = tt
-    refused_in_files n (Some held) name r = refused_with n name r.0 held (BadLine line) r.1 r.2
-refused_as n name depot (NoVertex line) r = (tt, refused_in_files n depot.files name r)
-  where
-    refused_in_files : (n : ℕ) (files : Option Files) (name : List ℕ) → IfSome files (Refuses n name (NoVertex line))
-        → IfSome files (λ held. edges_refusal n name held ≡ refusal_in (Err (NoVertex line)))
-    refused_in_files n None name r = tt
-    refused_in_files n (Some held) name r = refused_with n name r.0 held (NoVertex line) r.1 r.2
-refused_as n name depot (TooManyEdges line) r = (tt, refused_in_files n depot.files name r)
-  where
-    refused_in_files : (n : ℕ) (files : Option Files) (name : List ℕ) → IfSome files (Refuses n name (TooManyEdges line))
-        → IfSome files (λ held. edges_refusal n name held ≡ refusal_in (Err (TooManyEdges line)))
-    refused_in_files n None name r = tt
-    refused_in_files n (Some held) name r = refused_with n name r.0 held (TooManyEdges line) r.1 r.2
-refused_as n name depot Memory r = (tt, tt)
-
--- a front, a piece behind it and the rest are the whole file
-refused_of : (n size pos : ℕ) (text piece : List ℕ) (refusal : EdgeError) (found : Option (List ℕ))
+-- the lines that ended in what was read with the piece
+taken_of : (n size pos : ℕ) (text piece : List ℕ) (found : Option (List ℕ))
     → IsSomeAnd found (λ bytes. (pos + length piece ≤ length bytes) × (piece ≡ take (length piece) (drop pos bytes)))
     → IsSomeAnd found (λ bytes. (length bytes ≡ size) × (text ≡ take pos bytes))
-    → ((rest : List ℕ) → IsUnlessMemory {A = List Edge} (Err refusal) (edge_list_of (text ++ piece ++ rest) n))
-    → (whole : List ℕ) × (found ≡ Some whole) × IsUnlessMemory {A = List Edge} (Err refusal) (edge_list_of whole n)
-refused_of n size pos text piece refusal None there front decides = absurd there
-refused_of n size pos text piece refusal (Some bytes) there front decides =
-    (bytes, refl, subst (λ (t : List ℕ). IsUnlessMemory {A = List Edge} (Err refusal) (edge_list_of t n)) parts (decides rest))
+    → IsOk (ended_edges_of (text ++ piece) n)
+    → IsSomeAnd found (λ bytes. IsOk (ended_edges_of (take (pos + length piece) bytes) n))
+taken_of n size pos text piece None there front taken = there
+taken_of n size pos text piece (Some bytes) there front taken =
+    subst (λ (t : List ℕ). IsOk (ended_edges_of t n)) (more_of size pos text piece (Some bytes) there front).1 taken
+
+taken_in : (n size pos : ℕ) (text piece : List ℕ) (files : Option Files) (name : List ℕ) → IfSome files (λ held. HasBytesAt held name pos piece)
+    → IfSome files (λ held. IsFront held name size pos text) → IsOk (ended_edges_of (text ++ piece) n) → AreLinesTaken n files name (pos + length piece)
+taken_in n size pos text piece None name there front taken = tt
+taken_in n size pos text piece (Some held) name there front taken = taken_of n size pos text piece (get held name) there front taken
+
+pub lines_on : (n size pos : ℕ) (files : Option Files) (name piece : List ℕ) (reader : ReaderState)
+    → IfSome files (λ held. HasBytesAt held name pos piece)
+    → ((m : ℕ) (text : List ℕ) → HasRead m text reader → IsOk (ended_edges_of (text ++ piece) m))
+    → HasReadFront n files name size pos reader → AreLinesTaken n files name (pos + length piece)
+lines_on n size pos files name piece reader there taken before =
+    taken_in n size pos before.text piece files name there before.front (taken n before.text before.read)
+
+-- the file is there, and this is its text's refusal, if there is one
+abbrev Refuses : ℕ → List ℕ → Option EdgeListRefusal → Files → Type 0
+Refuses n name found held = (text : List ℕ) × (get held name ≡ Some text) × IfSome found (λ refusal. edge_list_of text n ≡ Err refusal)
+
+refused_in_files : (n : ℕ) (files : Option Files) (name : List ℕ) (refusal : EdgeListRefusal) → IfSome files (Refuses n name (Some refusal))
+    → IfSome files (λ held. edges_refusal n (get held name) ≡ Some (EdgeList refusal))
+refused_in_files n None name refusal r = tt
+refused_in_files n (Some held) name refusal r = ap (edges_refusal n) r.1 ∙ ap list_refusal r.2
+
+refused_by : (n : ℕ) (name : List ℕ) (depot : DepotChange) (found : Option EdgeListRefusal) → DepotServed depot
+    → IfSome depot.files (Refuses n name found) → IsReadingFailure (edges_reading n name) depot (failure_by found)
+refused_by n name depot None served r = served
+refused_by n name depot (Some refusal) served r = (refl, served, refused_in_files n depot.files name refusal r)
+
+-- a front, a piece behind it and the rest are the whole file
+refused_of : (n size pos : ℕ) (text piece : List ℕ) (error : EdgeError) (found : Option (List ℕ))
+    → IsSomeAnd found (λ bytes. (pos + length piece ≤ length bytes) × (piece ≡ take (length piece) (drop pos bytes)))
+    → IsSomeAnd found (λ bytes. (length bytes ≡ size) × (text ≡ take pos bytes))
+    → ((rest : List ℕ) → IsRefusalUnlessMemory {A = List Edge} error (edge_list_of (text ++ piece ++ rest) n))
+    → (whole : List ℕ) × (found ≡ Some whole) × IsRefusalUnlessMemory {A = List Edge} error (edge_list_of whole n)
+refused_of n size pos text piece error None there front decides = absurd there
+refused_of n size pos text piece error (Some bytes) there front decides =
+    (bytes, refl, subst (λ (t : List ℕ). IsRefusalUnlessMemory {A = List Edge} error (edge_list_of t n)) parts (decides rest))
   where
     rest : List ℕ
     rest = drop (length piece) (drop pos bytes)
@@ -111,23 +110,23 @@ refused_of n size pos text piece refusal (Some bytes) there front decides =
         ∙ ap (λ (back : List ℕ). take pos bytes ++ back) (take-append-drop (length piece) (drop pos bytes))
         ∙ take-append-drop pos bytes
 
-refused_in : (n size pos : ℕ) (text piece : List ℕ) (refusal : EdgeError) (files : Option Files) (name : List ℕ)
+refused_in : (n size pos : ℕ) (text piece : List ℕ) (error : EdgeError) (files : Option Files) (name : List ℕ)
     → IfSome files (λ held. HasBytesAt held name pos piece) → IfSome files (λ held. IsFront held name size pos text)
-    → ((rest : List ℕ) → IsUnlessMemory {A = List Edge} (Err refusal) (edge_list_of (text ++ piece ++ rest) n))
-    → IfSome files (Refuses n name refusal)
-refused_in n size pos text piece refusal None name there front decides = tt
-refused_in n size pos text piece refusal (Some held) name there front decides =
-    refused_of n size pos text piece refusal (get held name) there front decides
+    → ((rest : List ℕ) → IsRefusalUnlessMemory {A = List Edge} error (edge_list_of (text ++ piece ++ rest) n))
+    → IfSome files (Refuses n name (refusal_of error))
+refused_in n size pos text piece error None name there front decides = tt
+refused_in n size pos text piece error (Some held) name there front decides =
+    refused_of n size pos text piece error (get held name) there front decides
 
 -- a reader's refusal at a piece is the refusal of the file
-pub refused_at_piece : (n size pos : ℕ) (name piece : List ℕ) (depot : DepotChange) (refusal : EdgeError)
-    (reader : ReaderState) → IfSome depot.files (λ held. HasBytesAt held name pos piece)
-    → ((m : ℕ) (text rest : List ℕ) → HasRead m text reader → IsUnlessMemory {A = List Edge} (Err refusal) (edge_list_of (text ++ piece ++ rest) m))
+pub refused_at_piece : (n size pos : ℕ) (name piece : List ℕ) (depot : DepotChange) (error : EdgeError) (reader : ReaderState)
+    → DepotServed depot → IfSome depot.files (λ held. HasBytesAt held name pos piece)
+    → ((m : ℕ) (text rest : List ℕ) → HasRead m text reader → IsRefusalUnlessMemory {A = List Edge} error (edge_list_of (text ++ piece ++ rest) m))
     → HasReadFront n depot.files name size pos reader
-    → EndsReading n name depot (failure_of refusal)
-refused_at_piece n size pos name piece depot refusal reader there decides front =
-    refused_as n name depot refusal
-    (refused_in n size pos front.text piece refusal depot.files name there front.front (λ rest. decides n front.text rest front.read))
+    → IsReadingFailure (edges_reading n name) depot (failure_of error)
+refused_at_piece n size pos name piece depot error reader served there decides front =
+    refused_by n name depot (refusal_of error) served
+    (refused_in n size pos front.text piece error depot.files name there front.front (λ rest. decides n front.text rest front.read))
 
 -- what was read of a file of this size is the whole file
 whole_of : (size : ℕ) (text : List ℕ) (found : Option (List ℕ))
@@ -145,10 +144,10 @@ listed : (n : ℕ) (text : List ℕ) (files : Option Files) (name : List ℕ) (e
 listed n text None name edges is e = tt
 listed n text (Some held) name edges is e = record { text = text; file = is; lists = e }
 
-refuses : (n : ℕ) (text : List ℕ) (files : Option Files) (name : List ℕ) (refusal : EdgeError) → IfSome files (λ held. get held name ≡ Some text)
-    → IsUnlessMemory {A = List Edge} (Err refusal) (edge_list_of text n) → IfSome files (Refuses n name refusal)
-refuses n text None name refusal is e = tt
-refuses n text (Some held) name refusal is e = (text, is, e)
+refuses : (n : ℕ) (text : List ℕ) (files : Option Files) (name : List ℕ) (error : EdgeError) → IfSome files (λ held. get held name ≡ Some text)
+    → IsRefusalUnlessMemory {A = List Edge} error (edge_list_of text n) → IfSome files (Refuses n name (refusal_of error))
+refuses n text None name error is e = tt
+refuses n text (Some held) name error is e = (text, is, e)
 
 -- the edges of a reader of the whole file are those that the file lists
 pub listed_at_end : (n size : ℕ) (files : Option Files) (name : List ℕ) (edges : List Edge) (reader : ReaderState)
@@ -158,42 +157,79 @@ listed_at_end n size files name edges reader answers front =
     listed n front.text files name edges (whole_in size front.text files name front.front) (answers n front.text front.read)
 
 -- a refusal of a reader of the whole file is the refusal of the file
-pub refused_at_end : (n size : ℕ) (name : List ℕ) (depot : DepotChange) (refusal : EdgeError)
-    (reader : ReaderState)
-    → ((m : ℕ) (text : List ℕ) → HasRead m text reader → IsUnlessMemory {A = List Edge} (Err refusal) (edge_list_of text m))
-    → HasReadFront n depot.files name size size reader → EndsReading n name depot (failure_of refusal)
-refused_at_end n size name depot refusal reader answers front =
-    refused_as n name depot refusal
-    (refuses n front.text depot.files name refusal (whole_in size front.text depot.files name front.front) (answers n front.text front.read))
-
--- a file that isn't there lists no edges
-absent_of : (n : ℕ) (found : Option (List ℕ)) (refusal : Refusal)
-    → (if is_none found then Some (NoSuchFile Edges) else None) ≡ Some refusal → text_refusal n found ≡ Some refusal
-absent_of n None refusal e = e
-absent_of n (Some bytes) refusal e = cc
-
-absent_in : (n : ℕ) (name : List ℕ) (files : Option Files) (refusal : Refusal)
-    → IfSome files (λ held. missing Edges name held ≡ Some refusal) → IfSome files (λ held. edges_refusal n name held ≡ Some refusal)
-unfolding edges_refusal
-absent_in n name None refusal e = tt
-absent_in n name (Some held) refusal e = absent_of n (get held name) refusal e
-
--- what ends the question for the size of the file of edges ends its reading
-pub ends_without_size : (n : ℕ) (name : List ℕ) (depot : DepotChange) (failure : Failure)
-    → HasNoSize Edges name depot failure → EndsReading n name depot failure
-ends_without_size n name depot (Refused refusal) ended =
-    (subst IsEdgesRefusal (sym ended.0) refl, absent_in n name depot.files refusal ended.1)
-ends_without_size n name depot (ReadFailed operand) ended = ended
-ends_without_size n name depot (WriteFailed operand) ended = ended
-ends_without_size n name depot OutputFailed ended = ended
-ends_without_size n name depot OutOfMemory ended = ended
-
-taken_of : (n : ℕ) (name : List ℕ) (held : Files) (edges : List Edge) → ListsEdges held name n edges → edges_refusal n name held ≡ None
-unfolding edges_refusal
-taken_of n name held edges l = ap (text_refusal n) l.file ∙ ap refusal_in l.lists
+pub refused_at_end : (n size : ℕ) (name : List ℕ) (depot : DepotChange) (error : EdgeError) (reader : ReaderState) → DepotServed depot
+    → ((m : ℕ) (text : List ℕ) → HasRead m text reader → IsRefusalUnlessMemory {A = List Edge} error (edge_list_of text m))
+    → HasReadFront n depot.files name size size reader → IsReadingFailure (edges_reading n name) depot (failure_of error)
+refused_at_end n size name depot error reader served answers front =
+    refused_by n name depot (refusal_of error) served
+    (refuses n front.text depot.files name error (whole_in size front.text depot.files name front.front) (answers n front.text front.read))
 
 -- files that list edges aren't refused
 pub taken_where_listed : (n : ℕ) (files : Option Files) (name : List ℕ) (edges : List Edge) → IfSome files (λ held. ListsEdges held name n edges)
-    → AreTaken (edges_refusal n name) files
+    → IfSome files (λ held. edges_refusal n (get held name) ≡ None)
 taken_where_listed n None name edges l = tt
-taken_where_listed n (Some held) name edges l = taken_of n name held edges l
+taken_where_listed n (Some held) name edges l = ap (edges_refusal n) l.file ∙ ap list_refusal l.lists
+
+take-min : (k : ℕ) (xs : List ℕ) → take (min k (length xs)) xs ≡ take k xs
+take-min k xs =
+    elim (cases_lt k (length xs)) as (λ _. take (min k (length xs)) xs ≡ take k xs) [
+      | inl few ↦ let e : min k (length xs) ≡ k = omega arith in ap (λ j. take j xs) e
+      | inr many ↦ let e : min k (length xs) ≡ length xs = omega arith in ap (λ j. take j xs) e ∙ take-length xs ∙ sym (take_all k xs many)
+    ]
+
+-- what was read, whatever lies behind the end of the file
+cut_at_end_of : (n size most : ℕ) (found : Option (List ℕ)) → IsSomeAnd found (λ bytes. length bytes ≡ size)
+    → IsSomeAnd found (λ text. IsOk (ended_edges_of (take (min most size) text) n)) → IsSomeAnd found (λ text. IsOk (ended_edges_of (take most text) n))
+cut_at_end_of n size most None long taken = taken
+cut_at_end_of n size most (Some bytes) long taken =
+    let same : take (min most size) bytes ≡ take most bytes = ap (λ (k : ℕ). take (min most k) bytes) (sym long) ∙ take-min most bytes in
+    subst (λ (t : List ℕ). IsOk (ended_edges_of t n)) same taken
+
+pub lines_to : (n size most : ℕ) (files : Option Files) (name : List ℕ) → IfSome files (λ held. Some size ≡ size_of held name)
+    → AreLinesTaken n files name (min most size) → AreLinesTaken n files name most
+lines_to n size most None name sized taken = tt
+lines_to n size most (Some held) name sized taken = cut_at_end_of n size most (get held name) (long (get held name) sized) taken
+  where
+    long : (found : Option (List ℕ)) → Some size ≡ option_map length found → IsSomeAnd found (λ bytes. length bytes ≡ size)
+    long None e = cc
+    long (Some bytes) e = cc
+
+-- lines that are taken before a piece aren't refused before it
+unrefused_of : (n number : ℕ) (found : Option (List ℕ)) → IsSomeAnd found (λ text. IsOk (ended_edges_of (take ((number - 1) * TEXT_PIECE) text) n))
+    → refusal_before_piece n number found ≡ None
+unrefused_of n number None taken = refl
+unrefused_of n number (Some text) taken = taken_is_none (ended_edges_of (take ((number - 1) * TEXT_PIECE) text) n) taken
+  where
+    taken_is_none : (answer : Result (List Edge) EdgeListRefusal) → IsOk answer → list_refusal answer ≡ None
+    taken_is_none (Ok edges) is = refl
+    taken_is_none (Err refusal) is = absurd (search rules)
+
+pub unrefused_where_taken : (n number : ℕ) (files : Option Files) (name : List ℕ) → AreLinesTaken n files name ((number - 1) * TEXT_PIECE)
+    → IfSome files (λ held. refusal_before_piece n number (get held name) ≡ None)
+unrefused_where_taken n number None name taken = tt
+unrefused_where_taken n number (Some held) name taken = unrefused_of n number (get held name) taken
+
+-- where a piece begins that isn't behind the end
+pub piece_start : (index size : ℕ) → index < size / TEXT_PIECE + min 1 (size % TEXT_PIECE) → min (index * TEXT_PIECE) size ≡ index * TEXT_PIECE
+piece_start index size below = omega (arith, div_ceil_times size TEXT_PIECE (lit< tt))
+
+-- and where it ends
+pub piece_end : (index size count : ℕ) → index < size / TEXT_PIECE + min 1 (size % TEXT_PIECE) → count ≡ min (size - index * TEXT_PIECE) TEXT_PIECE
+    → index * TEXT_PIECE + count ≡ min ((index + 1) * TEXT_PIECE) size
+piece_end index size count below is = omega (arith, div_ceil_times size TEXT_PIECE (lit< tt))
+
+-- the lines of each piece up to one more
+pub lines_more : (n index : ℕ) (files : Option Files) (name : List ℕ) → ((piece : ℕ) → piece ≤ index → AreLinesTaken n files name (piece * TEXT_PIECE))
+    → AreLinesTaken n files name ((index + 1) * TEXT_PIECE) → (piece : ℕ) → piece ≤ index + 1 → AreLinesTaken n files name (piece * TEXT_PIECE)
+lines_more n index files name before last piece le =
+    elim (cases_lt piece (index + 1)) as (λ _. AreLinesTaken n files name (piece * TEXT_PIECE)) [
+      | inl below ↦ before piece (omega arith)
+      | inr here ↦ let e : index + 1 ≡ piece = omega arith in subst (λ (k : ℕ). AreLinesTaken n files name (k * TEXT_PIECE)) e last
+    ]
+
+-- what was known before each read, where at most one more was made than there are pieces whose lines are taken
+pub unrefused_up_to : (n index reads reads_now : ℕ) (files : Option Files) (name : List ℕ)
+    → ((piece : ℕ) → piece ≤ index → AreLinesTaken n files name (piece * TEXT_PIECE)) → reads_now ≤ reads + index + 1
+    → (number : ℕ) → reads + number ≤ reads_now → IfSome files (λ held. refusal_before_piece n number (get held name) ≡ None)
+unrefused_up_to n index reads reads_now files name taken few number made =
+    unrefused_where_taken n number files name (taken (number - 1) (omega arith))

@@ -1,3 +1,3 @@
-pub mod EdgeFiles
-pub mod Readings
-pub mod Endings
+pub mod EdgeReadings
+pub mod Builds
+pub mod Tools

@@ -1,8 +1,8 @@
 //! The output, computed for a small input.
-#![tactic(auto, unfolding(crate::specs::Endings::output_text))]
+#![tactic(auto, unfolding(crate::specs::Builds::output_text))]
 
 ghost use Rattle.std.specs.Prelude.{◌≡◌, codes};
-ghost use Rattle.gm_tools.specs.Endings.{output_text};
+ghost use Rattle.gm_tools.specs.Builds.{output_text};
 
 /// What is written of four edges in four blocks.
 pub fn output_of_a_build()

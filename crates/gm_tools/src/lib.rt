@@ -1,13 +1,13 @@
 //! The tools beside a run: `build` makes the grid of an edge list.
 #![tactic(auto)]
 
-mod building;
-mod examples;
-mod program;
-mod reading;
-
-pub use examples::output_of_a_build;
-pub use program::tool;
-
+mod build_tool;
+mod edge_reading;
+pub mod examples;
 #[cfg(test)]
 mod tests;
+mod tool_call;
+
+pub use build_tool::run_build;
+pub use edge_reading::TEXT_PIECE;
+pub use tool_call::tool;

@@ -3,12 +3,12 @@ use Rattle.std.proofs.Common.{◌≡◌, ℕ, List, [], ◌∷◌, Option, Some,
 use Rattle.gm_base.specs.declared.edge.Edge.{Edge}
 use Rattle.gm_base.specs.declared.job.JobLine.{JobLine}
 use Rattle.gm_base.specs.declared.job.Outcome.{Outcome}
-use Rattle.gm_base.specs.Runs.{lone_run}
+use Rattle.gm_kernel.specs.Runs.{lone_run}
 use Rattle.gm_outside.specs.Files.{Files}
-use Rattle.gm_commands.specs.Words.{RunCommand}
-use Rattle.gm_jobs.specs.declared.job.Job.{Job}
-use Rattle.gm_top.specs.Loads.{HoldsGrid, TellsJob}
-use Rattle.gm_top.specs.Reports.{AreLinesOf}
+use Rattle.gm_commands.specs.Commands.{RunCommand}
+use Rattle.gm_jobs.specs.declared.stated_job.Job.{Job}
+use Rattle.gm_top.specs.RunReadings.{HoldsGrid, TellsJob, StatesJob}
+use Rattle.gm_top.specs.RunReports.{AreLinesOf, AreReported}
 
 -- a line with this outcome
 abbrev line_with : Job → Outcome → JobLine
@@ -37,9 +37,11 @@ line_in command (Some held) n edges job outcome a b is =
 pub line_of_loaded : (command : RunCommand) (files files' : Option Files) (n n' : ℕ) (edges edges' : List Edge) (job : Job) (outcome : Outcome)
     → files' ≡ files → n' ≡ n → edges' ≡ edges
     → IfSome files (λ held. HoldsGrid held command.grid n edges) → IfSome files' (λ held. TellsJob held command.jobs n' job)
-    → outcome ≡ lone_run job.spec n' edges' → IfSome files (λ held. AreLinesOf command held (line_with job outcome ∷ []))
-line_of_loaded command files files' n n' edges edges' job outcome same count all a b is =
-    line_in command files n edges job outcome a
-    (subst (λ (f : Option Files). IfSome f (λ held. TellsJob held command.jobs n job)) same
-    (subst (λ (m : ℕ). IfSome files' (λ held. TellsJob held command.jobs m job)) count b))
-    (is ∙ (λ i. lone_run job.spec (count i) (all i)))
+    → StatesJob n' job → outcome ≡ lone_run job.spec n' edges' → AreReported command files (line_with job outcome ∷ [])
+line_of_loaded command files files' n n' edges edges' job outcome same count all a b states is = record {
+  some = record { n = n'; edges = edges'; job = job; states = states; lone = ap (λ (end : Outcome). line_with job end ∷ []) is };
+  told = line_in command files n edges job outcome a
+      (subst (λ (f : Option Files). IfSome f (λ held. TellsJob held command.jobs n job)) same
+      (subst (λ (m : ℕ). IfSome files' (λ held. TellsJob held command.jobs m job)) count b))
+      (is ∙ (λ i. lone_run job.spec (count i) (all i)));
+}

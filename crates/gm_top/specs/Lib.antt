@@ -1,5 +1,3 @@
-pub mod Rounds
-pub mod Refusals
-pub mod Reports
-pub mod Loads
-pub mod Endings
+pub mod RunReadings
+pub mod RunReports
+pub mod RunEndings

@@ -1,10 +1,10 @@
 //! The commands of the program, from their words to what they write and their status.
 #![tactic(auto)]
 
-mod program;
 mod rounds;
-mod run;
+mod run_call;
 #[cfg(test)]
 mod tests;
+mod top_call;
 
-pub use program::graphm;
+pub use top_call::graphm;

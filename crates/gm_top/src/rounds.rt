@@ -3,15 +3,16 @@
 ghost use Rattle.std.specs.Prelude.{◌≡◌, ℕ, ◌≤◌, ◌^◌, length, slice_index, map, IfOk, vec_len};
 ghost use Rattle.std.specs.List.{range_with_len};
 ghost use Rattle.std.specs.Str.{bytes_eq};
-ghost use Rattle.gm_base.specs.Graph.{most_edges, IsGraph, out_degree};
-ghost use Rattle.gm_base.specs.Kernels.{kernel_of};
-ghost use Rattle.gm_base.specs.Runs.{lone_run, round_of, values_after, settled_run};
-ghost use Rattle.gm_kernel.specs.Laws.{GivesTheSame};
+ghost use Rattle.gm_base.specs.declared.limits.TheConstants.{MAX_EDGES};
+ghost use Rattle.gm_base.specs.Graph.{IsGraph, out_degree};
+ghost use Rattle.gm_kernel.specs.Kernels.{kernel_of};
+ghost use Rattle.gm_kernel.specs.Runs.{lone_run, round_of, values_after, settled_run, Settles};
+ghost use Rattle.gm_kernel.specs.KernelLaws.{GivesTheSame};
 ghost use Rattle.gm_rank.specs.Ranks.{rank_job};
-ghost use Rattle.gm_top.specs.Rounds.{IgnoresDegrees};
 
 use gm_base::{Edge, Outcome, Spec, Values};
-use gm_kernel::{Kernel, pass_edges, sums_are_the_round};
+use gm_kernel::laws::{degrees_count_in_gifts, sums_are_the_round};
+use gm_kernel::{Kernel, pass_edges};
 use gm_paths::{Bfs, Sssp};
 use gm_rank::{Rank, count_pass, pass_shares, take_shares};
 use gm_wcc::Least;
@@ -82,6 +83,7 @@ fn advance<K: Kernel>(
 }
 
 /// The lone run of a kernel that goes on until a round changes nothing, for at most so many rounds.
+#[tactic(auto, using(gm_kernel::specs::RunsRules::round_steps))]
 pub(crate) fn settle<K: Kernel>(
     alloc: Global,
     kernel: &K,
@@ -90,9 +92,10 @@ pub(crate) fn settle<K: Kernel>(
     bound: u32,
 ) -> Result<Outcome, AllocError>
     requires graph { IsGraph n edges.now }
-    requires degrees { IgnoresDegrees (K.functions kernel.now) }
+    requires settles { Settles (K.job kernel.now) }
     ensures { IfOk result (λ outcome. outcome ≡ settled_run (K.functions kernel.now) n edges.now bound) }
 {
+    degrees_count_in_gifts();
     let degrees = vec![in alloc; 0; n as usize]?;
     let mut values = initial_values(alloc, kernel, n)?;
     let mut sums = vec![in alloc; 0; n as usize]?;
@@ -110,7 +113,7 @@ pub(crate) fn settle<K: Kernel>(
 /// The out-degree of each vertex.
 fn count_degrees(alloc: Global, n: u32, edges: &[Edge]) -> Result<Vec<u32>, AllocError>
     requires graph { IsGraph n edges.now }
-    requires few { length edges.now ≤ most_edges }
+    requires few { length edges.now ≤ MAX_EDGES }
     ensures count { IfOk result (λ degrees. vec_len degrees ≡ n) }
     ensures degrees { IfOk result (λ degrees. (v : ℕ) → slice_index degrees.items v ≡ out_degree edges.now v) }
 {
@@ -149,7 +152,7 @@ fn make_rank_rounds(
     rounds: u32,
 ) -> Result<Outcome, AllocError>
     requires graph { IsGraph n edges.now }
-    requires few { length edges.now ≤ most_edges }
+    requires few { length edges.now ≤ MAX_EDGES }
     ensures { IfOk result (λ outcome. outcome ≡ Outcome.Done rounds (values_after (kernel_of (Spec.Rank rounds)) n edges.now rounds)) }
 {
     let kernel = Rank { rounds };
@@ -175,7 +178,7 @@ pub(crate) fn lone_run(
     edges: &[Edge],
 ) -> Result<Outcome, AllocError>
     requires graph { IsGraph n edges.now }
-    requires few { length edges.now ≤ most_edges }
+    requires few { length edges.now ≤ MAX_EDGES }
     ensures { IfOk result (λ outcome. outcome ≡ lone_run spec n edges.now) }
 {
     match spec {

@@ -1,6 +1,5 @@
 //! Component labels.
 
-use gm_base::Spec;
 use gm_kernel::{Kernel, changed};
 
 /// The least label that reaches a vertex: each begins with its own, and an edge gives its ends' labels to each other.
@@ -8,15 +7,16 @@ use gm_kernel::{Kernel, changed};
 pub struct Least;
 
 impl Kernel for Least {
-    ghost use Rattle.gm_base.specs.Kernels.{kernel_of};
-    ghost use Rattle.gm_kernel.specs.Activity.{activity_of};
-    ghost use Rattle.gm_wcc.specs.Components.{components, component_laws};
+    ghost use Rattle.std.specs.Prelude.{refl};
+    ghost use Rattle.gm_base.specs.declared.job.Spec.TheVariants.{Wcc};
+    ghost use Rattle.gm_kernel.specs.Kernels.{kernel_of};
 
-    ghost functions = { λ _. kernel_of components };
+    // No bound changes the kernel of a component job.
+    ghost job = { λ _. Wcc 0 };
 
-    ghost is_active = { λ _. activity_of components };
+    ghost functions = { λ _. kernel_of (Wcc 0) };
 
-    ghost laws = { λ _. component_laws };
+    ghost is_of_its_job = { λ _. refl };
 
     fn init(&self, v: u32) -> u64 {
         u64::from(v)
@@ -41,16 +41,4 @@ impl Kernel for Least {
     fn two_way(&self) -> bool {
         true
     }
-}
-
-impl Least {
-    ghost use Rattle.std.specs.Prelude.{◌≡◌, ℕ};
-    ghost use Rattle.gm_base.specs.Kernels.{kernel_of};
-    ghost use Rattle.gm_kernel.specs.Activity.{activity_of};
-
-    /// A law: it is the kernel of a component job, whatever the job's bound.
-    pub fn is_of_its_job(&self)
-        ensures functions { (bound : ℕ) → ⟦<Least as Kernel>⟧.functions self.now ≡ kernel_of (Spec.Wcc bound) }
-        ensures activity { (bound : ℕ) → ⟦<Least as Kernel>⟧.is_active self.now ≡ activity_of (Spec.Wcc bound) }
-    {}
 }

@@ -1,4 +1,4 @@
-use Rattle.gm_grid.proofs.Readings.{same_from_IsGrid}
+use Rattle.gm_grid.proofs.GridReadings.{same_from_IsGrid}
 use Rattle.gm_grid.proofs.laws.no_other_reading.Goals as goal
 
 pub returns : goal.returns

@@ -1,5 +1,5 @@
-use Rattle.gm_kernel.proofs.Rounds.{round_of_sums}
+use Rattle.gm_kernel.specs.RunsRules.{sums_are_round_of}
 use Rattle.gm_kernel.proofs.laws.sums_are_the_round.Goals as goal
 
 pub returns : goal.returns
-returns c = round_of_sums
+returns c = sums_are_round_of

@@ -1,6 +1,6 @@
 use Rattle.std.proofs.Common.{◌≡◌, ℕ, drop}
 use Rattle.std.specs.Prelude.{slice_index}
-use Rattle.gm_base.specs.Runs.{joined_at}
+use Rattle.gm_kernel.specs.Runs.{joined_at}
 use Rattle.gm_kernel.proofs.pass.pass_edges.Given as goal
 
 -- the rest of the edges, joined into the sums so far, gives what all of them give from the start

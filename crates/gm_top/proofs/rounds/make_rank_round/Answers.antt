@@ -1,6 +1,6 @@
 use Rattle.std.proofs.Common.{ap, ◌∙◌}
-use Rattle.gm_base.specs.Kernels.{kernel_of, share_of}
-use Rattle.gm_base.specs.Runs.{joined_at}
+use Rattle.gm_kernel.specs.Kernels.{kernel_of, share_of}
+use Rattle.gm_kernel.specs.Runs.{joined_at}
 use Rattle.gm_rank.specs.Ranks.{rank_job}
 use Rattle.gm_top.proofs.RoundLemmas.{carried_at}
 use Rattle.gm_top.proofs.rounds.make_rank_round.Goals as goal

@@ -1,9 +1,9 @@
 use Rattle.std.proofs.Common.{◌≡◌, ◌+◌, vec_len, ap, sym, ◌∙◌}
 use Rattle.std.proofs.lemmas.List.{with_items_is}
-use Rattle.gm_base.specs.Kernels.{kernel_of}
-use Rattle.gm_base.specs.Runs.{values_after, round_of}
+use Rattle.gm_kernel.specs.Kernels.{kernel_of}
+use Rattle.gm_kernel.specs.Runs.{values_after, round_of}
 use Rattle.gm_rank.specs.Ranks.{rank_job}
-use Rattle.gm_top.proofs.RoundLemmas.{values_after-next}
+use Rattle.gm_kernel.specs.RunsRules.{values_after-next}
 use Rattle.gm_top.proofs.rounds.make_rank_rounds.Goals as goal
 
 pub loop-done-init : goal.loop-done-init

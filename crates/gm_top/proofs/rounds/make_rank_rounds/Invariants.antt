@@ -1,7 +1,7 @@
 use Rattle.std.proofs.Common.{◌≡◌, ℕ, List, vec_len}
 use Rattle.gm_base.specs.declared.edge.Edge.{Edge}
-use Rattle.gm_base.specs.Kernels.{kernel_of}
-use Rattle.gm_base.specs.Runs.{values_after}
+use Rattle.gm_kernel.specs.Kernels.{kernel_of}
+use Rattle.gm_kernel.specs.Runs.{values_after}
 use Rattle.gm_rank.specs.Ranks.{rank_job}
 use Rattle.gm_top.proofs.rounds.make_rank_rounds.Given as goal
 

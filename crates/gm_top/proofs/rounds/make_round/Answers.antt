@@ -1,5 +1,5 @@
 use Rattle.std.proofs.Common.{ap, ◌∙◌}
-use Rattle.gm_base.specs.Runs.{joined_at}
+use Rattle.gm_kernel.specs.Runs.{joined_at}
 use Rattle.gm_top.proofs.RoundLemmas.{carried_at}
 use Rattle.gm_top.proofs.rounds.make_round.Goals as goal
 

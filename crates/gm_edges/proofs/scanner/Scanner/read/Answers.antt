@@ -1,6 +1,6 @@
 use Rattle.std.proofs.Common.{arith}
 use Rattle.std.proofs.lemmas.Result.{err_from_is_err_and}
-use Rattle.gm_edges.proofs.Refusals.{refused_at}
+use Rattle.gm_edges.proofs.RefusedReaders.{refused_at}
 use Rattle.gm_edges.proofs.scanner.Scanner.read.Goals as goal
 
 -- the line that ends here is refused, and so is the piece

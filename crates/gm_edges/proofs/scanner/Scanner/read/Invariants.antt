@@ -1,5 +1,5 @@
 use Rattle.std.proofs.Common.{◌≡◌, Ok, drop}
-use Rattle.gm_edges.specs.Scanner.{after_bytes}
+use Rattle.gm_edges.specs.ReaderStates.{after_bytes}
 use Rattle.gm_edges.proofs.scanner.Scanner.read.Given as goal
 
 -- the rest of the piece, read from here, leads where the whole piece does

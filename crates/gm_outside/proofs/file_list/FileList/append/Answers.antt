@@ -1,7 +1,7 @@
 use Rattle.std.proofs.Common.{◌≡◌, ap, sym, ◌∙◌, set, arith, rules}
 use Rattle.std.proofs.lemmas.Result.{err_from_is_err_and}
 use Rattle.std.specs.FinMap.{insert}
-use Rattle.gm_outside.specs.Changes.{append_to-there, insert-held}
+use Rattle.gm_outside.specs.ChangesRules.{append_to-there, insert-held}
 use Rattle.gm_outside.specs.FileList.{files_of}
 use Rattle.gm_outside.proofs.StoredFiles.{files_of-set, is_there, is_missing}
 use Rattle.gm_outside.proofs.file_list.FileList.append.Goals as goal

@@ -1,6 +1,6 @@
 use Rattle.std.proofs.Common.{◌≡◌, ◌++◌, take, arith}
 use Rattle.std.proofs.lemmas.Grind.{common_steps}
-use Rattle.gm_outside.specs.Growth.{grew_by_prefix-told}
+use Rattle.gm_outside.specs.GrowthRules.{grew_by_prefix-told}
 use Rattle.gm_outside.proofs.mem_sink.MemSinkSink.write.Goals as goal
 
 pub returns-then-is_some-clause-grew_prefix : goal.returns-then-is_some-clause-grew_prefix

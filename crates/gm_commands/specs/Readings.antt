@@ -1,0 +1,102 @@
+-- How a command reads its files, and how the reading ends.
+use Rattle.std.specs.Prelude.{◌≡◌, ℕ, ◌+◌, ◌≤◌, Bool, true, false, ◌||◌, if◌then◌else◌, ◌<◌, length, IsTrue, Option, Some, None, IfSome, IsSomeAnd, vec_len, Result, OnOk, IfErr, List}
+use Rattle.std.specs.Option.{option_or}
+use Rattle.std.specs.FinMap.{get}
+use Rattle.gm_outside.specs.Causes.{Rose, counted}
+use Rattle.gm_outside.specs.Files.{Files}
+use Rattle.gm_outside.specs.Frames.{DepotChange, OnlyReads}
+use Rattle.gm_commands.specs.declared.files.FileText.{FileText}
+use Rattle.gm_commands.specs.declared.files.FileText.TheVariants.{Whole, Longer}
+use Rattle.gm_commands.specs.declared.failure.Operand.{Operand}
+use Rattle.gm_commands.specs.declared.failure.Operand.TheVariants.{Edges, Grid, Jobs}
+use Rattle.gm_commands.specs.declared.failure.Refusal.{Refusal}
+use Rattle.gm_commands.specs.declared.failure.Refusal.TheVariants.{Missing}
+use Rattle.gm_commands.specs.declared.failure.Failure.{Failure}
+use Rattle.gm_commands.specs.declared.failure.Failure.TheVariants.{Refused, ReadFailed, WriteFailed, OutputFailed, OutOfMemory}
+use Rattle.gm_commands.specs.Failures.{refused_operand}
+
+pub record Reading : Type 0 where
+  -- whether it reads this file
+  pub reads : Operand → Bool
+  -- why the files are refused: the first reason, if there is one
+  pub refusal : Files → Option Refusal
+  -- the same for what is known of the files when this one is asked for, in the reading's read of this number
+  pub refusal_before : Operand → ℕ → Files → Option Refusal
+
+-- a command that reads nothing
+abbrev pub no_reading : Reading
+no_reading = record { reads = λ operand. false; refusal = λ files. None; refusal_before = λ operand number files. None }
+
+-- first one reading, and then the other where nothing was refused
+abbrev pub reading_then : Reading → Reading → Reading
+reading_then first second = record {
+  reads = λ operand. first.reads operand || second.reads operand;
+  refusal = λ files. option_or (first.refusal files) (second.refusal files);
+  refusal_before = λ operand number files.
+      if first.reads operand then first.refusal_before operand number files else first.refusal files;
+}
+
+abbrev pub is_operand : Operand → Operand → Bool
+is_operand Edges Edges = true
+is_operand Grid Grid = true
+is_operand Jobs Jobs = true
+is_operand _ _ = false
+
+-- one file, which is refused where it isn't there, and by what it holds for this reason
+abbrev pub reading_of_file : Operand → List ℕ → (List ℕ → Option Refusal) → Reading
+reading_of_file operand name refusal = record {
+  reads = is_operand operand;
+  refusal = λ files. refusal_of_file operand refusal (get files name);
+  refusal_before = λ asked number files. None;
+}
+  where
+    refusal_of_file : Operand → (List ℕ → Option Refusal) → Option (List ℕ) → Option Refusal
+    refusal_of_file operand refusal None = Some (Missing operand)
+    refusal_of_file operand refusal (Some bytes) = refusal bytes
+
+-- the files aren't refused, where they are told
+abbrev pub AreTaken : Reading → Option Files → Type 0
+AreTaken reading files = IfSome files (λ held. reading.refusal held ≡ None)
+
+-- the depot failed, and it isn't calm
+abbrev pub DepotFailed : DepotChange → Type 0
+DepotFailed depot = Rose depot.faults depot.faults_now × (IsTrue depot.calm → ⊥)
+
+-- no call on the depot failed
+abbrev pub DepotServed : DepotChange → Type 0
+DepotServed depot = depot.faults_now ≡ depot.faults
+
+-- where the files are told, what was known of them before each read so far, and when this file was asked for, isn't refused
+abbrev pub IsUnrefusedBefore : Reading → DepotChange → Operand → Type 0
+IsUnrefusedBefore reading depot operand = (number : ℕ) → depot.reads + number ≤ depot.reads_now
+    → IfSome depot.files (λ held. reading.refusal_before operand number held ≡ None)
+
+-- a failure that ends a reading: the files' refusal, a fault of the depot before any refusal, or want of memory
+abbrev pub IsReadingFailure : Reading → DepotChange → Failure → Type 0
+IsReadingFailure reading depot (Refused refusal) =
+    IsTrue (reading.reads (refused_operand refusal)) × DepotServed depot × IfSome depot.files (λ held. reading.refusal held ≡ Some refusal)
+IsReadingFailure reading depot (ReadFailed operand) = IsTrue (reading.reads operand) × DepotFailed depot × IsUnrefusedBefore reading depot operand
+IsReadingFailure reading depot (WriteFailed operand) = ⊥
+IsReadingFailure reading depot OutputFailed = ⊥
+IsReadingFailure reading depot OutOfMemory = DepotServed depot
+
+-- what a call answers that reads files by at most so many reads, and what it leaves
+pub record ReadsFiles {T : Type 0} (most : ℕ) (reading : Reading) (depot : DepotChange) (result : Result T Failure) : Type 0 where
+  pub frame : OnlyReads most depot
+  pub ok : OnOk result (AreTaken reading depot.files × DepotServed depot)
+  pub err : IfErr result (IsReadingFailure reading depot)
+
+-- what was read of a whole file, of which so many bytes were wanted at most: a longer one wasn't read
+abbrev pub IsTextOf : Option (List ℕ) → ℕ → FileText → Type 0
+IsTextOf found most (Whole bytes) = (found ≡ Some bytes.items) × (length bytes.items ≤ most)
+IsTextOf found most (Longer size) = IsSomeAnd found (λ bytes. length bytes ≡ size) × (most < size)
+
+-- whatever the depot tells: what was read has at most so many bytes, and what wasn't has more
+abbrev pub IsWithin : ℕ → FileText → Type 0
+IsWithin most (Whole bytes) = vec_len bytes ≤ most
+IsWithin most (Longer size) = most < size
+
+-- how many reads that took
+abbrev pub reads_of_text : FileText → ℕ → ℕ
+reads_of_text (Whole bytes) reads = counted reads
+reads_of_text (Longer size) reads = reads

@@ -1,0 +1,96 @@
+-- The bytes of a number that was read, lowest first, are the bytes that it was read from.
+use Rattle.std.proofs.Common.{◌≡◌, ℕ, zero, suc, ◌+◌, ◌*◌, ◌/◌, ◌%◌, ◌^◌, ◌<◌, ◌≤◌, List, [], ◌∷◌, ◌++◌, length, take, drop, slice_index, get_or, inl, inr, refl, sym, ap, ◌∙◌, arith}
+use Rattle.std.proofs.lemmas.Bool.{cases_lt}
+use Rattle.std.proofs.lemmas.List.{get_or-take, get_or_past, length-take, drop-drop, take-append-drop, get_or-drop, length-drop, take_all}
+use Rattle.std.proofs.Math.Nat.{div-div-eq-div-mul, pow-succ'}
+use Rattle.std.specs.Int.{byte_at, bytes_low_first}
+use Rattle.byteorder.specs.Endian.{little_bytes, little_number}
+use Rattle.byteorder.specs.Numbers.{little_from-cons}
+use Rattle.gm_base.specs.declared.edge.Edge.{Edge}
+use Rattle.gm_grid.specs.Format.{magic, head_bytes, edge_bytes}
+use Rattle.gm_grid.specs.GridBytes.{shape_of_head, edge_of_bytes}
+
+-- each is below 256
+abbrev pub AreBytes : List ℕ → Type 0
+AreBytes xs = (k : ℕ) → slice_index xs k < 256
+
+-- a lowest byte in front moves the others on
+byte_at_shift : (i b y : ℕ) → b < 256 → byte_at (suc i) (b + 256 * y) ≡ byte_at i y
+byte_at_shift zero b y h =
+    let q : (b + 256 * y) / 256 ≡ y = omega arith in
+    ap (λ (z : ℕ). z % 256) q
+byte_at_shift (suc i) b y h =
+    let q : (b + 256 * y) / 256 ≡ y = omega arith in
+    let split : (b + 256 * y) / 256 ^ suc (suc i) ≡ (b + 256 * y) / 256 / 256 ^ suc i =
+    ap (λ (p : ℕ). (b + 256 * y) / p) (pow-succ' 256 (suc i)) ∙ sym (div-div-eq-div-mul (b + 256 * y) 256 (256 ^ suc i)) in
+    ap (λ (z : ℕ). z % 256) (split ∙ ap (λ (z : ℕ). z / 256 ^ suc i) q)
+
+bytes_shift : (k i b y : ℕ) → b < 256 → bytes_low_first (suc i) k (b + 256 * y) ≡ bytes_low_first i k y
+bytes_shift zero i b y h = refl
+bytes_shift (suc k) i b y h =
+    let first = byte_at_shift i b y h in
+    let others = bytes_shift k (suc i) b y h in
+    rw (first, others) refl
+
+pub bytes-number : (n : ℕ) (xs : List ℕ) → n ≤ length xs → AreBytes xs → little_bytes n (little_number n xs) ≡ take n xs
+bytes-number zero xs fits small = refl
+bytes-number (suc n) [] fits small = absurd (omega arith)
+bytes-number (suc n) (x ∷ xs) fits small =
+    let moved = little_from-cons 0 n x xs in
+    let byte : x < 256 = small 0 in
+    let y = little_number n xs in
+    let first : (x + 256 * y) % 256 ≡ x = omega arith in
+    let others = bytes_shift n 0 x y byte in
+    let back = bytes-number n xs (omega arith) (λ k. small (suc k)) in
+    rw (moved, first, others, back) refl
+
+joined : {a b c d e f : List ℕ} → a ≡ d → b ≡ e → c ≡ f → a ++ (b ++ c) ≡ d ++ (e ++ f)
+joined p q r = cc
+
+-- a list in three parts
+three_parts : (xs : List ℕ) (i j : ℕ) → take i xs ++ (take j (drop i xs) ++ drop (i + j) xs) ≡ xs
+three_parts xs i j =
+    let rest : take j (drop i xs) ++ drop (i + j) xs ≡ drop i xs =
+    ap (λ ys. take j (drop i xs) ++ ys) (sym (drop-drop j i xs)) ∙ take-append-drop j (drop i xs) in
+    ap (λ ys. take i xs ++ ys) rest ∙ take-append-drop i xs
+
+pub AreBytes-drop : (i : ℕ) (xs : List ℕ) → AreBytes xs → AreBytes (drop i xs)
+AreBytes-drop i xs small k = rw (get_or-drop i xs k 0) (small (i + k))
+
+pub AreBytes-take : (i : ℕ) (xs : List ℕ) → AreBytes xs → AreBytes (take i xs)
+AreBytes-take i xs small k =
+    elim (cases_lt k i) [
+      | inl below ↦ rw (get_or-take i xs k 0 below) (small k)
+      | inr past ↦
+          let none : get_or (take i xs) k 0 ≡ 0 = get_or_past (take i xs) k 0 (omega (arith, length-take i xs)) in
+          omega arith
+    ]
+
+-- the bytes of a number of n bytes
+pub whole_number : (n : ℕ) (xs : List ℕ) → length xs ≡ n → AreBytes xs → little_bytes n (little_number n xs) ≡ xs
+whole_number n xs whole small = bytes-number n xs (omega arith) small ∙ take_all n xs (omega arith)
+
+-- a number of four bytes, which are all that is left
+last_four : (i : ℕ) (xs : List ℕ) → length xs ≡ i + 4 → AreBytes xs → little_bytes 4 (little_number 4 (drop i xs)) ≡ drop i xs
+last_four i xs whole small =
+    bytes-number 4 (drop i xs) (omega (arith, length-drop i xs)) (AreBytes-drop i xs small)
+    ∙ take_all 4 (drop i xs) (omega (arith, length-drop i xs))
+
+-- the edge of twelve bytes has these bytes
+pub edge_bytes-edge_of_bytes : (e : Edge) (xs : List ℕ) → length xs ≡ 12 → AreBytes xs → e ≡ edge_of_bytes xs → edge_bytes e ≡ xs
+edge_bytes-edge_of_bytes e xs whole small is =
+    ap edge_bytes is
+    ∙ joined (bytes-number 4 xs (omega arith) small)
+    (bytes-number 4 (drop 4 xs) (omega (arith, length-drop 4 xs)) (AreBytes-drop 4 xs small))
+    (last_four 8 xs whole small)
+    ∙ three_parts xs 4 4
+
+-- the head of sixteen bytes has these bytes
+pub head_bytes-fields : (n parts : ℕ) (xs : List ℕ) → length xs ≡ 16 → AreBytes xs → take 8 xs ≡ magic
+    → n ≡ (shape_of_head xs).n → parts ≡ (shape_of_head xs).parts → xs ≡ head_bytes n parts
+head_bytes-fields n parts xs whole small kind vertices ranges =
+    sym (
+    joined (sym kind)
+    (ap (little_bytes 4) vertices ∙ bytes-number 4 (drop 8 xs) (omega (arith, length-drop 8 xs)) (AreBytes-drop 8 xs small))
+    (ap (little_bytes 4) ranges ∙ last_four 12 xs whole small)
+    ∙ three_parts xs 8 4)

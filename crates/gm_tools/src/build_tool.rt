@@ -1,0 +1,68 @@
+//! One build: the edges of the text, the grid's file and the output.
+
+ghost use Rattle.std.specs.Prelude.{◌≡◌, ◌≤◌, ◌⊎◌, length, IfErr, IsErrOf, OnOk, OnErr, IsTrue};
+ghost use Rattle.gm_base.specs.declared.limits.TheConstants.{MAX_EDGES};
+ghost use Rattle.gm_base.specs.Graph.{IsGraph};
+ghost use Rattle.gm_outside.specs.Calls.{depot_change, sink_change};
+ghost use Rattle.gm_outside.specs.Causes.{HasCause, HasExactCause};
+ghost use Rattle.gm_outside.specs.Changes.{HoldsPrefix};
+ghost use Rattle.gm_build.specs.Blocks.{built_file};
+ghost use Rattle.gm_commands.specs.Commands.{build_said};
+ghost use Rattle.gm_commands.specs.Endings.{EndsBy, OutputServed};
+ghost use Rattle.gm_commands.specs.Readings.{AreTaken, DepotServed};
+ghost use Rattle.gm_tools.specs.EdgeReadings.{ReadsInPieces};
+ghost use Rattle.gm_tools.specs.Builds.{output_text, build_reading, MakesGrid, Builds, BuildLeaves, KeepsOthers};
+
+use crate::edge_reading::list_edges;
+use gm_base::Edges;
+use gm_build::build;
+use gm_commands::{BuildCommand, Failure, Operand};
+use gm_output::Line;
+use gm_outside::{Depot, Sink, Trouble};
+use std::alloc::Global;
+
+/// The failure of a call on the grid's file.
+const WRITE_FAILED: Failure = Failure::WriteFailed(Operand::Grid);
+
+/// The output for so many edges and blocks.
+#[tactic(auto, unfolding(crate::specs::Builds::output_text))]
+fn output_line(edges: usize, blocks: u32) -> Line
+    ensures { result ≡ output_text edges blocks }
+{
+    let mut line = Line::new();
+    line.text(b"edges ");
+    line.number(edges as u64);
+    line.text(b" blocks ");
+    line.number(u64::from(blocks));
+    line.text(b"\n");
+    line
+}
+
+/// Reads the command's edges, makes their grid and writes the output.
+pub fn run_build<D: Depot, K: Sink>(
+    alloc: Global,
+    command: &BuildCommand<'_>,
+    depot: &mut D,
+    out: &mut K,
+) -> Result<(), Failure>
+    ensures taken { OnOk result (AreTaken (build_reading (build_said command.now)) (D.files depot.old)) }
+    ensures builds { OnOk result (Builds (build_said command.now) (depot_change ⟦<D as Depot>⟧ depot.old depot.new) (sink_change ⟦<K as Sink>⟧ out.old out.new)) }
+    ensures served { OnOk result (DepotServed (depot_change ⟦<D as Depot>⟧ depot.old depot.new) × OutputServed (sink_change ⟦<K as Sink>⟧ out.old out.new)) }
+    ensures err { IfErr result (EndsBy (build_reading (build_said command.now))
+        (depot_change ⟦<D as Depot>⟧ depot.old depot.new) (sink_change ⟦<K as Sink>⟧ out.old out.new)) }
+    ensures leaves { IfErr result (BuildLeaves (build_said command.now)
+        (depot_change ⟦<D as Depot>⟧ depot.old depot.new) (sink_change ⟦<K as Sink>⟧ out.old out.new)) }
+    ensures pieces { ReadsInPieces command.now.shape.n command.now.edges.now (depot_change ⟦<D as Depot>⟧ depot.old depot.new) }
+    ensures faults { D.faults depot.old ≤ D.faults depot.new }
+    ensures out_faults { K.faults out.old ≤ K.faults out.new }
+    ensures calm { D.calm depot.new ≡ D.calm depot.old }
+{
+    let parts = command.shape.parts();
+    let edges = list_edges(alloc, depot, command.edges, command.shape.n())?;
+    build(alloc, &edges, &command.shape, depot, command.grid).map_err(|trouble| WRITE_FAILED.by(
+        trouble,
+    ))?;
+    let output = output_line(edges.len(), parts * parts);
+    out.write(output.as_slice())
+        .map_err(|trouble| Failure::OutputFailed.by(trouble))
+}

@@ -1,0 +1,56 @@
+//! The call of the tools.
+
+ghost use Rattle.std.specs.Prelude.{◌≡◌, ◌≤◌, ◌↔◌, None, IfSome};
+ghost use Rattle.gm_outside.specs.Calls.{depot_change, sink_change};
+ghost use Rattle.gm_commands.specs.Commands.{command_of};
+ghost use Rattle.gm_commands.specs.Endings.{call_of, IsComplete, IsUsageCall};
+ghost use Rattle.gm_tools.specs.Tools.{tool_in, tool_reading, ToolReads, ToolSucceeds, ToolFails, ToolKeepsOthers, IsToolStatus};
+
+use crate::build_tool::run_build;
+use gm_base::Words;
+use gm_commands::{Command, conclude, read_command, say_usage};
+use gm_outside::{Depot, Sink};
+use std::alloc::Global;
+
+/// Does what the words say over the depot's files: `build EDGES GRID N PARTS` makes GRID the grid of the edges that EDGES lists, for N
+/// vertices in PARTS ranges, and writes how many edges and blocks it has. The answer is the program's status.
+///
+/// 0: the grid and the output were written whole. 2: the words are no command of the tools. 3: there is no file EDGES. 4: a line of it is
+/// refused. 6: the depot failed. 7: standard output failed. 8: want of memory. From 2 on a line went to `err`, or a first part where `err`
+/// failed. No file but GRID changes.
+pub fn tool<D: Depot, K: Sink, E: Sink>(
+    alloc: Global,
+    words: &Words,
+    depot: &mut D,
+    out: &mut K,
+    err: &mut E,
+) -> u8
+    ensures usage { (result ≡ 2) ↔ (tool_in (command_of words.now) ≡ None) }
+    ensures usage_call { result ≡ 2 → IsUsageCall (call_of words.now (depot_change ⟦<D as Depot>⟧ depot.old depot.new)
+        (sink_change ⟦<K as Sink>⟧ out.old out.new) (sink_change ⟦<E as Sink>⟧ err.old err.new) result) }
+    ensures tool_output { result ≡ 0 → IfSome (tool_in (command_of words.now)) (λ command. ToolSucceeds command
+        (call_of words.now (depot_change ⟦<D as Depot>⟧ depot.old depot.new)
+        (sink_change ⟦<K as Sink>⟧ out.old out.new) (sink_change ⟦<E as Sink>⟧ err.old err.new) result)) }
+    ensures error_line { 3 ≤ result → IfSome (tool_in (command_of words.now)) (λ command. ToolFails command
+        (call_of words.now (depot_change ⟦<D as Depot>⟧ depot.old depot.new)
+        (sink_change ⟦<K as Sink>⟧ out.old out.new) (sink_change ⟦<E as Sink>⟧ err.old err.new) result)) }
+    ensures completeness { IfSome (tool_in (command_of words.now)) (λ command. IsComplete (tool_reading command) 0
+        (depot_change ⟦<D as Depot>⟧ depot.old depot.new) (sink_change ⟦<K as Sink>⟧ out.old out.new) result) }
+    ensures statuses { IsToolStatus result }
+    ensures files { IfSome (tool_in (command_of words.now)) (λ command. ToolKeepsOthers command (depot_change ⟦<D as Depot>⟧ depot.old depot.new)) }
+    ensures reads { IfSome (tool_in (command_of words.now)) (λ command. ToolReads command (depot_change ⟦<D as Depot>⟧ depot.old depot.new)) }
+    ensures faults { D.faults depot.old ≤ D.faults depot.new }
+    ensures out_faults { K.faults out.old ≤ K.faults out.new }
+    ensures calm { D.calm depot.new ≡ D.calm depot.old }
+{
+    match read_command(words) {
+        Some(Command::Build(build)) => {
+            let outcome = run_build(alloc, &build, depot, out).map(|()| 0);
+            conclude(err, &Command::Build(build), outcome)
+        }
+        Some(Command::Run(_)) | None => {
+            say_usage(err);
+            2
+        }
+    }
+}

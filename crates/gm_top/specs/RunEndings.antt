@@ -1,0 +1,60 @@
+-- How a call of the program ends.
+use Rattle.std.specs.Prelude.{◌≡◌, ◌≤◌, ℕ, ◌⊎◌}
+use Rattle.gm_outside.specs.Frames.{DepotChange, SinkChange, OnlyReads}
+use Rattle.gm_outside.specs.Causes.{counted_times}
+use Rattle.gm_commands.specs.declared.failure.Failure.{Failure}
+use Rattle.gm_commands.specs.declared.failure.Failure.TheVariants.{Refused, ReadFailed, WriteFailed, OutputFailed, OutOfMemory}
+use Rattle.gm_commands.specs.Commands.{Command, run, build, RunCommand}
+use Rattle.gm_commands.specs.Readings.{Reading}
+use Rattle.gm_commands.specs.Endings.{Call, WritesNothing, HasSucceeded, HasFailed, IsComplete}
+use Rattle.gm_tools.specs.Tools.{tool_reading, ToolReads, ToolPerforms, ToolLeaves, ToolKeepsOthers}
+use Rattle.gm_top.specs.RunReadings.{run_reading}
+use Rattle.gm_top.specs.RunReports.{Reports, ReportsPartly}
+
+-- what a run leaves on standard output after this failure
+abbrev pub RunLeaves : RunCommand → DepotChange → SinkChange → Failure → Type 0
+RunLeaves command depot out (Refused refusal) = WritesNothing depot out
+RunLeaves command depot out (ReadFailed operand) = WritesNothing depot out
+RunLeaves command depot out (WriteFailed operand) = ⊥
+RunLeaves command depot out OutputFailed = ReportsPartly command depot out
+RunLeaves command depot out OutOfMemory = WritesNothing depot out ⊎ ReportsPartly command depot out
+
+-- how a command reads its files
+abbrev pub reading_of : Command → Reading
+reading_of (run command) = run_reading command
+reading_of (build command) = tool_reading (build command)
+
+-- what a command does that succeeds
+abbrev pub Performs : Command → DepotChange → SinkChange → ℕ → Type 0
+Performs (run command) depot out status = Reports command depot out status
+Performs (build command) depot out status = ToolPerforms (build command) depot out status
+
+abbrev pub Succeeds : Command → Call → Type 0
+Succeeds command call = HasSucceeded reading_of Performs command call
+
+-- what a command leaves of the files and of standard output after this failure
+abbrev pub Leaves : Command → DepotChange → SinkChange → Failure → Type 0
+Leaves (run command) depot out failure = RunLeaves command depot out failure
+Leaves (build command) depot out failure = ToolLeaves (build command) depot out failure
+
+abbrev pub Fails : Command → Call → Type 0
+Fails command call = HasFailed reading_of Leaves command call
+
+-- how often a command reads its files: a run that succeeds twice, and any other at most twice
+abbrev pub Reads : Command → DepotChange → ℕ → Type 0
+Reads (run command) depot status = OnlyReads 2 depot × (status ≤ 1 → depot.reads_now ≡ counted_times 2 depot.reads)
+Reads (build command) depot status = ToolReads (build command) depot
+
+-- which files a command changes at most
+abbrev pub KeepsFiles : Command → DepotChange → Type 0
+KeepsFiles (run command) depot = (depot.files_now ≡ depot.files) × (depot.write_faults_now ≡ depot.write_faults)
+KeepsFiles (build command) depot = ToolKeepsOthers (build command) depot
+
+-- the greatest status of a command that succeeds
+abbrev pub most_success : Command → ℕ
+most_success (run command) = 1
+most_success (build command) = 0
+
+-- an undisturbed call answers what its command and the files give
+abbrev pub IsCompleteFor : Command → DepotChange → SinkChange → ℕ → Type 0
+IsCompleteFor command depot out status = IsComplete (reading_of command) (most_success command) depot out status
