@@ -8,8 +8,8 @@ use gm_base::{Edge, Edges, Shape};
 use gm_outside::MemDepot;
 use std::test::Fail;
 
-/// A way over four vertices with a shortcut, in two ranges.
-const WAY: [u8; 96] = *b"GGRID001\x04\0\0\0\x02\0\0\0\
+/// A path over four vertices with a shortcut, in two ranges.
+const PATH: [u8; 96] = *b"GGRID001\x04\0\0\0\x02\0\0\0\
     \x01\0\0\0\0\0\0\0\x02\0\0\0\0\0\0\0\0\0\0\0\0\0\0\0\x01\0\0\0\0\0\0\0\
     \0\0\0\0\x01\0\0\0\x01\0\0\0\x01\0\0\0\x02\0\0\0\x01\0\0\0\
     \0\0\0\0\x02\0\0\0\x05\0\0\0\x02\0\0\0\x03\0\0\0\x01\0\0\0";
@@ -34,7 +34,7 @@ fn builds_a_grid(rt: HostRuntime) -> Result<(), Fail> {
     assert!(rt;
         depot
             .file("a.grid")
-            .is_some_and(|bytes| bytes == WAY.as_slice())
+            .is_some_and(|bytes| bytes == PATH.as_slice())
     );
     Ok(())
 }

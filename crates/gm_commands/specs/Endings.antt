@@ -1,5 +1,5 @@
 -- How a call of the program ends, by its status.
-use Rattle.std.specs.Prelude.{◌≡◌, ◌≤◌, ℕ, List, IsTrue, ◌⊎◌, Option, Some, None, IfSome}
+use Rattle.std.specs.Prelude.{◌≡◌, ◌≤◌, ℕ, List, IsTrue, ◌⊎◌, Option, Some, None, IfSome, Result, OnOk, IfOk, IfErr}
 use Rattle.gm_outside.specs.Causes.{Rose}
 use Rattle.gm_outside.specs.Frames.{DepotChange, SinkChange}
 use Rattle.gm_commands.specs.declared.failure.Refusal.{Refusal}
@@ -46,6 +46,16 @@ EndsBy reading depot out (WriteFailed operand) =
     DepotFailed depot × Rose depot.write_faults depot.write_faults_now × AreTaken reading depot.files × OutputServed out
 EndsBy reading depot out OutputFailed = Rose out.faults out.faults_now × AreTaken reading depot.files × DepotServed depot
 EndsBy reading depot out OutOfMemory = DepotServed depot × OutputServed out
+
+-- What a command answers, the status after it or a failure, and what it leaves. It has succeeded where its files aren't refused, it did
+-- what it is for and no call failed.
+pub record Handles (reading : Reading) (Performs : DepotChange → SinkChange → ℕ → Type 0) (Leaves : DepotChange → SinkChange → Failure → Type 0)
+    (depot : DepotChange) (out : SinkChange) (result : Result ℕ Failure) : Type 0 where
+  pub taken : OnOk result (AreTaken reading depot.files)
+  pub performs : IfOk result (Performs depot out)
+  pub served : OnOk result (DepotServed depot × OutputServed out)
+  pub cause : IfErr result (EndsBy reading depot out)
+  pub leaves : IfErr result (Leaves depot out)
 
 -- The command's files aren't refused, it did what it is for, no call failed, and nothing was said.
 pub record HasSucceeded (reading : Command → Reading) (Performs : Command → DepotChange → SinkChange → ℕ → Type 0)

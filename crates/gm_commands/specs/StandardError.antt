@@ -17,6 +17,10 @@ line_of text = codes "graphm: " ++ text ++ end_of_line
 unfoldable pub usage_line : List ℕ
 usage_line = line_of (codes "usage: run GRID JOBS WORKERS CHUNK, build EDGES GRID N PARTS, info GRID CHUNK, drill NUMBER SCALE WORKERS")
 
+-- where there was no memory before the words were known
+unfoldable pub out_of_memory_line : List ℕ
+out_of_memory_line = line_of (codes "out of memory")
+
 -- a command's word for the file, if there is one
 abbrev pub named_by : Command → Option Operand → List ℕ
 named_by command (Some operand) = word_of command operand ++ codes ": "

@@ -1,9 +1,9 @@
 //! The commands, and the words that say them.
 
-ghost use Rattle.std.specs.Prelude.{◌≡◌, option_map, map, string_bytes, drop};
+ghost use Rattle.std.specs.Prelude.{◌≡◌, option_map, map, string_bytes};
 ghost use Rattle.gm_base.specs.declared.limits.TheConstants.{MAX_CHUNK_SIZE, MAX_VERTICES, MAX_PARTS};
 ghost use Rattle.std.specs.List.{list_all};
-ghost use Rattle.gm_commands.specs.Commands.{is_plain, number_between, run_from, build_from, command_from, command_of, said, word_of};
+ghost use Rattle.gm_commands.specs.Commands.{is_plain, number_between, run_from, build_from, command_of, said, word_of};
 
 use crate::failure::Operand;
 use gm_base::{MAX_CHUNK_SIZE, MAX_PARTS, MAX_VERTICES, Shape, Words, number};

@@ -72,14 +72,6 @@ pub enum Failure {
     OutOfMemory,
 }
 
-impl From<AllocError> for Failure {
-    ghost from_gives = { λ _ failure. failure ≡ OutOfMemory };
-
-    fn from(_error: AllocError) -> Failure {
-        Failure::OutOfMemory
-    }
-}
-
 impl Failure {
     ghost use Rattle.std.specs.Prelude.{◌≡◌};
     ghost use Rattle.gm_commands.specs.Failures.{status_of, operand_of, failed_by};
@@ -115,5 +107,13 @@ impl Failure {
             Trouble::Failed => self,
             Trouble::Memory => Failure::OutOfMemory,
         }
+    }
+}
+
+impl From<AllocError> for Failure {
+    ghost from_gives = { λ _ failure. failure ≡ OutOfMemory };
+
+    fn from(_error: AllocError) -> Failure {
+        Failure::OutOfMemory
     }
 }

@@ -11,4 +11,4 @@ mod standard_error;
 pub use command::{BuildCommand, Command, RunCommand, read_command};
 pub use failure::{Failure, Operand, Refusal};
 pub use files::{FileText, file_size, read_file};
-pub use standard_error::{conclude, say_usage};
+pub use standard_error::{conclude, say_out_of_memory, say_usage};

@@ -2,10 +2,10 @@
 
 ghost use Rattle.std.specs.Prelude.{◌≡◌, IfOk, IfErr, OnOk};
 ghost use Rattle.gm_outside.specs.Calls.{sink_change};
-ghost use Rattle.gm_outside.specs.Frames.{Writes};
+ghost use Rattle.gm_output.specs.Pieces.{texts_of};
 ghost use Rattle.gm_commands.specs.Commands.{said};
 ghost use Rattle.gm_commands.specs.Failures.{status_of};
-ghost use Rattle.gm_commands.specs.StandardError.{IsSaid, SaysNothing, usage_line, error_line};
+ghost use Rattle.gm_commands.specs.StandardError.{IsSaid, SaysNothing, usage_line, out_of_memory_line, error_line};
 
 use crate::command::Command;
 use crate::failure::Failure;
@@ -19,52 +19,45 @@ const PROGRAM: &[u8] = b"graphm: ";
 const USAGE: &[u8] =
     b"usage: run GRID JOBS WORKERS CHUNK, build EDGES GRID N PARTS, info GRID CHUNK, drill NUMBER SCALE WORKERS";
 
-#[tactic(auto, unfolding(crate::specs::StandardError::usage_line))]
-fn write_usage<E: Sink>(err: &mut E) -> Result<(), Trouble>
-    ensures { Writes usage_line (sink_change ⟦<E as Sink>⟧ err.old err.new) result }
+/// Says the line that these texts are. Where standard error fails, a first part of it was written.
+fn say_texts<E: Sink>(err: &mut E, texts: &[&[u8]])
+    ensures { IsSaid (texts_of texts.now) (sink_change ⟦<E as Sink>⟧ err.old err.new) }
 {
-    write_texts(err, &[PROGRAM, USAGE, b"\n"])
+    let written = write_texts(err, texts);
+    match written {
+        Ok(()) => {}
+        Err(Trouble::Failed) => {}
+        Err(Trouble::Memory) => {}
+    }
 }
 
-/// Writes the line of a failure, by the command's words for its files.
-fn write_failure<E: Sink>(
-    err: &mut E,
-    command: &Command<'_>,
-    failure: Failure,
-) -> Result<(), Trouble>
-    ensures { Writes (error_line (said command.now) failure) (sink_change ⟦<E as Sink>⟧ err.old err.new) result }
+/// Says how the program is called, as [`conclude`] says a failure.
+#[tactic(auto, unfolding(crate::specs::StandardError::usage_line))]
+pub fn say_usage<E: Sink>(err: &mut E)
+    ensures { IsSaid usage_line (sink_change ⟦<E as Sink>⟧ err.old err.new) }
+{
+    say_texts(err, &[PROGRAM, USAGE, b"\n"]);
+}
+
+/// Says that there was no memory, before the words were known.
+#[tactic(auto, unfolding(crate::specs::StandardError::out_of_memory_line))]
+pub fn say_out_of_memory<E: Sink>(err: &mut E)
+    ensures { IsSaid out_of_memory_line (sink_change ⟦<E as Sink>⟧ err.old err.new) }
+{
+    say_texts(err, &[PROGRAM, b"out of memory\n"]);
+}
+
+/// Says why a command failed, by its words for its files.
+fn say<E: Sink>(err: &mut E, command: &Command<'_>, failure: Failure)
+    ensures { IsSaid (error_line (said command.now) failure) (sink_change ⟦<E as Sink>⟧ err.old err.new) }
 {
     let text = text_of(failure);
     match failure.operand() {
         Some(operand) => {
             let name = command.word(operand).as_bytes();
-            write_texts(err, &[PROGRAM, name, b": ", text.as_slice(), b"\n"])
+            say_texts(err, &[PROGRAM, name, b": ", text.as_slice(), b"\n"])
         }
-        None => write_texts(err, &[PROGRAM, text.as_slice(), b"\n"]),
-    }
-}
-
-/// Says how the program is called. Where standard error fails, a first part of the line was written.
-pub fn say_usage<E: Sink>(err: &mut E)
-    ensures { IsSaid usage_line (sink_change ⟦<E as Sink>⟧ err.old err.new) }
-{
-    let written = write_usage(err);
-    match written {
-        Ok(()) => {}
-        Err(Trouble::Failed) => {}
-        Err(Trouble::Memory) => {}
-    }
-}
-
-/// Says why a command failed. Where standard error fails too, a first part of the line was written.
-fn say<E: Sink>(err: &mut E, command: &Command<'_>, failure: Failure)
-    ensures { IsSaid (error_line (said command.now) failure) (sink_change ⟦<E as Sink>⟧ err.old err.new) }
-{
-    let written = write_failure(err, command, failure);
-    match written {
-        Ok(()) => {}
-        Err(Trouble::Failed) => {}
-        Err(Trouble::Memory) => {}
+        None => say_texts(err, &[PROGRAM, text.as_slice(), b"\n"]),
     }
 }
 

@@ -1,6 +1,6 @@
 //! The definition of the edges of a text, computed on texts that were worked out by hand.
 
-ghost use Rattle.std.specs.Prelude.{◌≡◌, [], ◌∷◌, ◌++◌, codes};
+ghost use Rattle.std.specs.Prelude.{◌≡◌, [], ◌∷◌, codes};
 ghost use Rattle.gm_base.specs.Graph.{edge};
 ghost use Rattle.gm_edges.specs.EdgeText.{edge_list_of, edge_list_up_to, ended_edges_of};
 

@@ -3,7 +3,7 @@
 ghost use Rattle.std.specs.Prelude.{◌≡◌};
 ghost use Rattle.gm_edges.specs.LineStates.{line_at, with_digit, after_digit, after_blank, after_other, line_after, meaning_at_end};
 
-use gm_base::MAX_DIGITS;
+use gm_base::{MAX_DIGITS, TOP};
 
 /// What a line means.
 #[derive(Clone, Copy)]
@@ -33,18 +33,19 @@ pub(crate) enum WordPlace {
     Bad,
 }
 
-/// A line so far.
+/// A line so far. The small fields stand side by side: all of it is copied at each byte, and what lies between fields too.
 #[derive(Clone, Copy)]
 pub(crate) struct LineState {
     pub place: WordPlace,
     /// How many digits the present word has so far: 0 between words.
-    pub digits: usize,
-    /// The number that these digits write.
+    pub digits: u8,
+    /// The number of the third word, where that has ended.
+    pub weight: u32,
+    /// The number that the digits of the present word write.
     pub value: u64,
     /// The numbers of the words before.
     pub first: u64,
     pub second: u64,
-    pub weight: u32,
 }
 
 impl LineState {
@@ -55,10 +56,10 @@ impl LineState {
         LineState {
             place,
             digits: 0,
+            weight: 0,
             value: 0,
             first: 0,
             second: 0,
-            weight: 0,
         }
     }
 
@@ -66,14 +67,14 @@ impl LineState {
     fn with_digit(self, digit: u64) -> LineState
         ensures { result ≡ with_digit self digit }
     {
-        let tens = self.value.checked_mul(10);
-        match tens.and_then(|tens| tens.checked_add(digit)) {
-            Some(value) if self.digits < MAX_DIGITS => LineState {
-                digits: self.digits + 1,
-                value,
-                ..self
-            },
-            _ => LineState::at(WordPlace::Bad),
+        let is_number = self.value <= TOP / 10 && self.value * 10 <= TOP - digit;
+        if !is_number || usize::from(self.digits) >= MAX_DIGITS {
+            return LineState::at(WordPlace::Bad);
+        }
+        LineState {
+            digits: self.digits + 1,
+            value: self.value * 10 + digit,
+            ..self
         }
     }
 

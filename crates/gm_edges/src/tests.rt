@@ -1,4 +1,4 @@
-//! Texts over four vertices, each cut at every place into two pieces. The expected answers were worked out by hand from the format.
+//! Texts over four vertices, each cut at every place into two pieces, and as many edges as there may be. The expected answers were worked out by hand from the format.
 
 ghost use Rattle.std.specs.Prelude.{◌++◌};
 ghost use Rattle.gm_edges.specs.EdgeText.{edge_list_of};
@@ -7,6 +7,7 @@ ghost use Rattle.gm_edges.specs.EdgeErrors.{IsUnlessMemory};
 use crate::{EdgeError, EdgeReader};
 use gm_base::{Edge, Edges};
 use std::alloc::Global;
+use std::test::Fail;
 
 /// What a reader answers that is fed a text in two pieces: the clauses of the reader's calls say that it's the text's list of edges.
 fn read_in_two(alloc: Global, front: &[u8], back: &[u8]) -> Result<Edges, EdgeError>
@@ -85,4 +86,17 @@ fn refuses_lines(rt: HostRuntime) {
     for (text, refusal) in rows {
         assert!(rt; gives(rt.alloc(), text, Err(refusal)), "{text:?}");
     }
+}
+
+/// 2^24 edges are taken, in pieces of 65,536 bytes, and one more is refused.
+#[test]
+fn most_edges(rt: HostRuntime) -> Result<(), Fail> {
+    let piece = b"0 0\n".repeat(rt.alloc(), 16_384)?;
+    let mut reader = EdgeReader::new(rt.alloc(), 1);
+    for _ in 0..1024 {
+        reader.feed(&piece)?;
+    }
+    let answer = reader.feed(b"0 0\n".as_slice());
+    assert_eq!(rt; answer, Err(EdgeError::TooManyEdges { line: 16_777_217 }));
+    Ok(())
 }

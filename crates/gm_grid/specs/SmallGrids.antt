@@ -20,19 +20,19 @@ one_two_none_one =
     1 ∷ 0 ∷ 0 ∷ 0 ∷ 0 ∷ 0 ∷ 0 ∷ 0 ∷ []
 
 -- 0 to 1, 1 to 2, 0 to 2 of weight 5, 2 to 3
-abbrev pub way_edges : List ℕ
-way_edges =
+abbrev pub path_edges : List ℕ
+path_edges =
     0 ∷ 0 ∷ 0 ∷ 0 ∷ 1 ∷ 0 ∷ 0 ∷ 0 ∷ 1 ∷ 0 ∷ 0 ∷ 0 ∷
     1 ∷ 0 ∷ 0 ∷ 0 ∷ 2 ∷ 0 ∷ 0 ∷ 0 ∷ 1 ∷ 0 ∷ 0 ∷ 0 ∷
     0 ∷ 0 ∷ 0 ∷ 0 ∷ 2 ∷ 0 ∷ 0 ∷ 0 ∷ 5 ∷ 0 ∷ 0 ∷ 0 ∷
     2 ∷ 0 ∷ 0 ∷ 0 ∷ 3 ∷ 0 ∷ 0 ∷ 0 ∷ 1 ∷ 0 ∷ 0 ∷ 0 ∷ []
 
 -- 96 bytes
-abbrev pub way_file : List ℕ
-way_file = good_magic ++ four_by_two ++ one_two_none_one ++ way_edges
+abbrev pub path_file : List ℕ
+path_file = good_magic ++ four_by_two ++ one_two_none_one ++ path_edges
 
-abbrev pub way_blocks : List (List Edge)
-way_blocks = (edge 0 1 1 ∷ []) ∷ (edge 1 2 1 ∷ edge 0 2 5 ∷ []) ∷ [] ∷ (edge 2 3 1 ∷ []) ∷ []
+abbrev pub path_blocks : List (List Edge)
+path_blocks = (edge 0 1 1 ∷ []) ∷ (edge 1 2 1 ∷ edge 0 2 5 ∷ []) ∷ [] ∷ (edge 2 3 1 ∷ []) ∷ []
 
 -- one vertex, one range, no edges: 24 bytes
 abbrev pub one_vertex_file : List ℕ
@@ -44,7 +44,7 @@ head_of_another_kind = (71 ∷ 71 ∷ 82 ∷ 73 ∷ 68 ∷ 48 ∷ 48 ∷ 50 ∷ 
 
 -- no vertices, 2 ranges
 abbrev pub file_without_vertices : List ℕ
-file_without_vertices = good_magic ++ (0 ∷ 0 ∷ 0 ∷ 0 ∷ 2 ∷ 0 ∷ 0 ∷ 0 ∷ []) ++ one_two_none_one ++ way_edges
+file_without_vertices = good_magic ++ (0 ∷ 0 ∷ 0 ∷ 0 ∷ 2 ∷ 0 ∷ 0 ∷ 0 ∷ []) ++ one_two_none_one ++ path_edges
 
 -- 2 vertices, 3 ranges
 abbrev pub head_of_too_many_ranges : List ℕ
@@ -56,11 +56,11 @@ file_of_vast_blocks = good_magic ++ four_by_two ++
     (0 ∷ 0 ∷ 0 ∷ 0 ∷ 0 ∷ 0 ∷ 0 ∷ 128 ∷
     0 ∷ 0 ∷ 0 ∷ 0 ∷ 0 ∷ 0 ∷ 0 ∷ 128 ∷
     0 ∷ 0 ∷ 0 ∷ 0 ∷ 0 ∷ 0 ∷ 0 ∷ 0 ∷
-    0 ∷ 0 ∷ 0 ∷ 0 ∷ 0 ∷ 0 ∷ 0 ∷ 0 ∷ []) ++ way_edges
+    0 ∷ 0 ∷ 0 ∷ 0 ∷ 0 ∷ 0 ∷ 0 ∷ 0 ∷ []) ++ path_edges
 
 -- another second edge in place of 1 to 2
 abbrev pub file_with_second_edge : List ℕ → List ℕ
-file_with_second_edge bytes = take 60 way_file ++ bytes ++ drop 72 way_file
+file_with_second_edge bytes = take 60 path_file ++ bytes ++ drop 72 path_file
 
 -- 1 to 1, which lies in the last block
 abbrev pub edge_of_last_block : List ℕ

@@ -4,15 +4,15 @@
 ghost use Rattle.std.specs.Prelude.{◌≡◌, Some, None, [], ◌∷◌, take};
 ghost use Rattle.gm_grid.specs.Format.{IsGrid};
 ghost use Rattle.gm_grid.specs.GridRefusals.{chunk_count, refusal_by_chunks, grid_refusal, unchunked_refusal};
-ghost use Rattle.gm_grid.specs.SmallGrids.{way_file, way_blocks, one_vertex_file, head_of_another_kind, file_without_vertices, head_of_too_many_ranges, file_of_vast_blocks, file_with_second_edge, edge_of_last_block, edge_to_no_vertex};
+ghost use Rattle.gm_grid.specs.SmallGrids.{path_file, path_blocks, one_vertex_file, head_of_another_kind, file_without_vertices, head_of_too_many_ranges, file_of_vast_blocks, file_with_second_edge, edge_of_last_block, edge_to_no_vertex};
 
 use crate::GridError;
 
-/// A way over four vertices with a shortcut, in two ranges.
-pub fn grid_of_a_way()
-    ensures grid { IsGrid way_file 4 2 way_blocks }
-    ensures accepted { grid_refusal 1 way_file ≡ None }
-    ensures unchunked { unchunked_refusal way_file ≡ None }
+/// A path over four vertices with a shortcut, in two ranges.
+pub fn grid_of_a_path()
+    ensures grid { IsGrid path_file 4 2 path_blocks }
+    ensures accepted { grid_refusal 1 path_file ≡ None }
+    ensures unchunked { unchunked_refusal path_file ≡ None }
 {}
 
 /// One vertex and no edges.
@@ -23,13 +23,13 @@ pub fn grid_of_one_vertex()
 
 /// What is refused, and for what, in the order in which it is looked for.
 pub fn refused_files()
-    ensures no_head { grid_refusal 1 (take 10 way_file) ≡ Some (GridError.BadSize 10 16) }
+    ensures no_head { grid_refusal 1 (take 10 path_file) ≡ Some (GridError.BadSize 10 16) }
     ensures another_kind { grid_refusal 1 head_of_another_kind ≡ Some GridError.BadMagic }
     ensures no_vertices { grid_refusal 1 file_without_vertices ≡ Some (GridError.BadShape 0 2) }
     ensures too_many_ranges { grid_refusal 1 head_of_too_many_ranges ≡ Some (GridError.BadShape 2 3) }
-    ensures no_index { grid_refusal 1 (take 40 way_file) ≡ Some (GridError.BadSize 40 48) }
+    ensures no_index { grid_refusal 1 (take 40 path_file) ≡ Some (GridError.BadSize 40 48) }
     ensures vast_blocks { grid_refusal 1 file_of_vast_blocks ≡ Some (GridError.TooManyEdges 18446744073709551616) }
-    ensures cut { grid_refusal 1 (take 95 way_file) ≡ Some (GridError.BadSize 95 96) }
+    ensures cut { grid_refusal 1 (take 95 path_file) ≡ Some (GridError.BadSize 95 96) }
     ensures cut_with_bad_edge { grid_refusal 1 (take 95 (file_with_second_edge edge_to_no_vertex)) ≡ Some (GridError.BadSize 95 96) }
     ensures misplaced { grid_refusal 1 (file_with_second_edge edge_of_last_block) ≡ Some (GridError.BadEdge 1) }
     ensures no_vertex { grid_refusal 1 (file_with_second_edge edge_to_no_vertex) ≡ Some (GridError.BadEdge 1) }

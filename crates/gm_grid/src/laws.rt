@@ -1,6 +1,6 @@
 //! Laws of the format, and of a file that is read part by part.
 
-ghost use Rattle.std.specs.Prelude.{◌≡◌, ◌+◌, ◌*◌, ◌<◌, ◌≤◌, ◌^◌, ◌++◌, ℕ, List, [], length, take, drop, sum, map, not, slice_index, slice_index_or, IsTrue, Option, Some, None, option_map, All};
+ghost use Rattle.std.specs.Prelude.{◌≡◌, ◌+◌, ◌*◌, ◌<◌, ◌≤◌, ◌^◌, ◌++◌, ℕ, List, [], length, take, drop, sum, map, not, slice_index, slice_index_or, IsTrue, Some, None, option_map, All};
 ghost use Rattle.std.specs.List.{position};
 ghost use Rattle.std.specs.Option.{option_or};
 ghost use Rattle.gm_base.specs.declared.edge.Edge.{Edge};

@@ -4,7 +4,7 @@
 ghost use Rattle.std.specs.Prelude.{◌≡◌, [], ◌∷◌, true, false};
 ghost use Rattle.gm_base.specs.declared.limits.TheConstants.{TOP};
 ghost use Rattle.gm_base.specs.Graph.{edge, out_degree};
-ghost use Rattle.gm_base.specs.Examples.{way_with_shortcut, joined_backwards};
+ghost use Rattle.gm_base.specs.Examples.{path_with_shortcut, joined_backwards};
 ghost use Rattle.gm_kernel.specs.Kernels.{kernel_of, share_of};
 ghost use Rattle.gm_kernel.specs.Activity.{activity_of, active_in_round};
 ghost use Rattle.gm_kernel.specs.Runs.{lone_run, value_after_round, is_done_after};
@@ -14,19 +14,19 @@ use gm_base::{Outcome, Spec};
 
 /// Levels from vertex 0: the fourth vertex is two steps away, over the dear edge.
 pub fn breadth_first_run()
-    ensures { lone_run (Spec.Bfs 0 5) 4 way_with_shortcut ≡ Outcome.Done 3 (0 ∷ 1 ∷ 1 ∷ 2 ∷ []) }
+    ensures { lone_run (Spec.Bfs 0 5) 4 path_with_shortcut ≡ Outcome.Done 3 (0 ∷ 1 ∷ 1 ∷ 2 ∷ []) }
 {}
 
 /// Distances from vertex 0: a later, shorter walk replaces the dear edge.
 pub fn shortest_path_run()
-    ensures done { lone_run (Spec.Sssp 0 5) 4 way_with_shortcut ≡ Outcome.Done 4 (0 ∷ 1 ∷ 2 ∷ 3 ∷ []) }
-    ensures bound { lone_run (Spec.Sssp 0 3) 4 way_with_shortcut ≡ Outcome.Rounds 3 }
-    ensures enough { lone_run (Spec.Sssp 0 4) 4 way_with_shortcut ≡ Outcome.Done 4 (0 ∷ 1 ∷ 2 ∷ 3 ∷ []) }
+    ensures done { lone_run (Spec.Sssp 0 5) 4 path_with_shortcut ≡ Outcome.Done 4 (0 ∷ 1 ∷ 2 ∷ 3 ∷ []) }
+    ensures bound { lone_run (Spec.Sssp 0 3) 4 path_with_shortcut ≡ Outcome.Rounds 3 }
+    ensures enough { lone_run (Spec.Sssp 0 4) 4 path_with_shortcut ≡ Outcome.Done 4 (0 ∷ 1 ∷ 2 ∷ 3 ∷ []) }
 {}
 
 /// All four vertices are one component.
 pub fn component_run()
-    ensures { lone_run (Spec.Wcc 5) 4 way_with_shortcut ≡ Outcome.Done 3 (0 ∷ 0 ∷ 0 ∷ 0 ∷ []) }
+    ensures { lone_run (Spec.Wcc 5) 4 path_with_shortcut ≡ Outcome.Done 3 (0 ∷ 0 ∷ 0 ∷ 0 ∷ []) }
 {}
 
 /// A label that reaches a vertex only against the direction of its edge.
@@ -36,9 +36,9 @@ pub fn component_run_by_column()
 
 /// One and two rounds of rank.
 pub fn rank_run()
-    ensures one { lone_run (Spec.Rank 1) 4 way_with_shortcut
+    ensures one { lone_run (Spec.Rank 1) 4 path_with_shortcut
         ≡ Outcome.Done 1 (150000000 ∷ 575000000 ∷ 1425000000 ∷ 1000000000 ∷ []) }
-    ensures two { lone_run (Spec.Rank 2) 4 way_with_shortcut
+    ensures two { lone_run (Spec.Rank 2) 4 path_with_shortcut
         ≡ Outcome.Done 2 (150000000 ∷ 213750000 ∷ 702500000 ∷ 1361250000 ∷ []) }
 {}
 
@@ -72,17 +72,17 @@ pub fn active_by_share()
 
 /// A vertex that got its level in one round is active in the next one alone. The fourth vertex is reached in the second round.
 pub fn active_by_round()
-    ensures source_first { active_in_round (Spec.Bfs 0 5) 4 way_with_shortcut (out_degree way_with_shortcut) 0 0 ≡ true }
-    ensures others_first { active_in_round (Spec.Bfs 0 5) 4 way_with_shortcut (out_degree way_with_shortcut) 0 2 ≡ false }
-    ensures source_later { active_in_round (Spec.Bfs 0 5) 4 way_with_shortcut (out_degree way_with_shortcut) 1 0 ≡ false }
-    ensures reached { active_in_round (Spec.Bfs 0 5) 4 way_with_shortcut (out_degree way_with_shortcut) 1 2 ≡ true }
-    ensures last { active_in_round (Spec.Bfs 0 5) 4 way_with_shortcut (out_degree way_with_shortcut) 2 3 ≡ true }
+    ensures source_first { active_in_round (Spec.Bfs 0 5) 4 path_with_shortcut (out_degree path_with_shortcut) 0 0 ≡ true }
+    ensures others_first { active_in_round (Spec.Bfs 0 5) 4 path_with_shortcut (out_degree path_with_shortcut) 0 2 ≡ false }
+    ensures source_later { active_in_round (Spec.Bfs 0 5) 4 path_with_shortcut (out_degree path_with_shortcut) 1 0 ≡ false }
+    ensures reached { active_in_round (Spec.Bfs 0 5) 4 path_with_shortcut (out_degree path_with_shortcut) 1 2 ≡ true }
+    ensures last { active_in_round (Spec.Bfs 0 5) 4 path_with_shortcut (out_degree path_with_shortcut) 2 3 ≡ true }
 {}
 
 /// The job of levels is done once a round changes nothing, the job of ranks after its rounds.
 pub fn done_after_rounds()
-    ensures changing { is_done_after (Spec.Bfs 0 5) 4 way_with_shortcut 2 ≡ false }
-    ensures settled { is_done_after (Spec.Bfs 0 5) 4 way_with_shortcut 3 ≡ true }
+    ensures changing { is_done_after (Spec.Bfs 0 5) 4 path_with_shortcut 2 ≡ false }
+    ensures settled { is_done_after (Spec.Bfs 0 5) 4 path_with_shortcut 3 ≡ true }
     ensures rank_goes_on { is_done_after (Spec.Rank 2) 1 [] 1 ≡ false }
     ensures rank_done { is_done_after (Spec.Rank 2) 1 [] 2 ≡ true }
 {}

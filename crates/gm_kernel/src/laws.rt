@@ -1,7 +1,7 @@
 //! Laws of passes, rounds and lone runs: what may be reordered, what may be left out, what the same graph keeps, and when a job ends.
 #![tactic(auto, using(crate::specs::PassRules::pass_laws, crate::specs::RunsRules::run_laws, crate::specs::SettlingRules::settling_laws))]
 
-ghost use Rattle.std.specs.Prelude.{◌≡◌, ℕ, ◌+◌, ◌<◌, ◌≤◌, Bool, true, false, List, ◌++◌, length, slice_index, fold, flat_map, All};
+ghost use Rattle.std.specs.Prelude.{◌≡◌, ℕ, ◌+◌, ◌<◌, ◌≤◌, Bool, true, List, ◌++◌, length, slice_index, fold, flat_map, All};
 ghost use Rattle.std.specs.List.Sorted.{IsPermutation};
 ghost use Rattle.gm_base.specs.declared.edge.Edge.{Edge};
 ghost use Rattle.gm_base.specs.declared.job.Spec.{Spec};

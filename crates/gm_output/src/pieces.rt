@@ -19,14 +19,6 @@ pub struct Pieces {
     pending: ArrayVec<u8, PIECE>,
 }
 
-impl Model for Pieces {
-    ghost use Rattle.std.specs.Prelude.{ℕ, List};
-
-    ghost Value = { List ℕ };
-
-    ghost view = { λ a. a.pending.items };
-}
-
 impl Pieces {
     /// Nothing is pending.
     pub fn new() -> Pieces
@@ -99,6 +91,14 @@ impl Pieces {
         }
         sink.write(self.pending.as_slice())
     }
+}
+
+impl Model for Pieces {
+    ghost use Rattle.std.specs.Prelude.{ℕ, List};
+
+    ghost Value = { List ℕ };
+
+    ghost view = { λ a. a.pending.items };
 }
 
 /// Writes one text after the other, in one write where they are short. After a refusal a first part of them was written.

@@ -1,7 +1,7 @@
 -- A call on a depot or on a sink, by what the object tells before it and after it.
 use Rattle.gm_outside.specs.declared.traits.Depot as Depot
 use Rattle.gm_outside.specs.declared.traits.Sink as Sink
-use Rattle.gm_outside.specs.Frames.{DepotChange, SinkChange}
+use Rattle.gm_outside.specs.Frames.{DepotChange, SinkChange, sink_change_of}
 
 abbrev pub depot_change : {D : Type 0} → Depot.Ghosts D → D → D → DepotChange
 depot_change depot old new = record {
@@ -18,11 +18,5 @@ depot_change depot old new = record {
 }
 
 abbrev pub sink_change : {S : Type 0} → Sink.Ghosts S → S → S → SinkChange
-sink_change sink old new = record {
-  held = sink.written old;
-  holds = sink.written new;
-  faults = sink.faults old;
-  faults_now = sink.faults new;
-  lacks = sink.lacks old;
-  lacks_now = sink.lacks new;
-}
+sink_change sink old new =
+    sink_change_of (sink.written old) (sink.written new) (sink.faults old) (sink.faults new) (sink.lacks old) (sink.lacks new)

@@ -34,6 +34,10 @@ pub record SinkChange : Type 0 where
   pub lacks : ℕ
   pub lacks_now : ℕ
 
+abbrev pub sink_change_of : Option (List ℕ) → Option (List ℕ) → ℕ → ℕ → ℕ → ℕ → SinkChange
+sink_change_of held holds faults faults_now lacks lacks_now =
+    record { held = held; holds = holds; faults = faults; faults_now = faults_now; lacks = lacks; lacks_now = lacks_now }
+
 -- a call that gives up only where the sink does: where it failed its count of faults rose, and where it found no memory that of lacks
 pub record GivesUpWith {T : Type 0} (sink : SinkChange) (result : Result T Trouble) : Type 0 where
   pub fault : HasExactCause Failed sink.faults sink.faults_now result

@@ -9,3 +9,4 @@ pub mod FramesRules
 pub mod Growth
 pub mod GrowthRules
 pub mod Memory
+pub mod Notes

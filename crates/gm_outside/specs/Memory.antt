@@ -1,10 +1,13 @@
 -- What the depot and the sink in memory hold and count.
-use Rattle.std.specs.Prelude.{ℕ, Bool, List, length, nat_eq, refl, find, Option}
+use Rattle.std.specs.Prelude.{◌≡◌, ℕ, Bool, List, length, nat_eq, refl, find, Option, if◌then◌else◌, Result, IsErrOf}
 use Rattle.std.specs.Option.{option_map}
 use Rattle.std.specs.Coded.{Coded, code_by, coded×, coded_ℕ, coded_list}
 use Rattle.gm_outside.specs.Causes.{counted}
 use Rattle.gm_outside.specs.Files.{Files, files_code}
+use Rattle.gm_outside.specs.declared.traits.Trouble.{Trouble}
+use Rattle.gm_outside.specs.declared.traits.Trouble.TheVariants.{Failed, Memory}
 use Rattle.gm_outside.specs.declared.mem_depot.Call.{Call}
+use Rattle.gm_outside.specs.declared.mem_depot.Call.TheVariants.{Size, Read, Create, Append}
 
 -- a depot: its files, the calls that are made to fail, by their kind and their number from 1 on,
 -- the calls of each kind so far, the calls that failed, and those of `create` and `append` among them
@@ -21,6 +24,33 @@ pub record DepotState : Type 0 where
 -- no call is made to fail
 abbrev pub is_calm : DepotState → Bool
 is_calm state = nat_eq (length state.fails) 0
+
+-- how many calls of this kind were made
+abbrev pub calls_of : Call → DepotState → ℕ
+calls_of Size state = state.sizes
+calls_of Read state = state.reads
+calls_of Create state = state.creates
+calls_of Append state = state.appends
+
+-- after one more call of this kind
+abbrev pub with_call : Call → DepotState → DepotState
+with_call Size state = record state { sizes = counted state.sizes }
+with_call Read state = record state { reads = counted state.reads }
+with_call Create state = record state { creates = counted state.creates }
+with_call Append state = record state { appends = counted state.appends }
+
+-- after one more call of this kind that changes no file, and that failed or not
+abbrev pub with_answer : Call → Bool → DepotState → DepotState
+with_answer call is_good state = record (with_call call state) { faults = if is_good then state.faults else counted state.faults }
+
+-- after one more fault of a call that writes
+abbrev pub with_write_fault : DepotState → DepotState
+with_write_fault state = record state { faults = counted state.faults; write_faults = counted state.write_faults }
+
+-- a call that writes and gives up: one that failed counted its fault, one that found no memory did not
+pub record GivesUpWriting {T : Type 0} (call : Call) (old new : DepotState) (result : Result T Trouble) : Type 0 where
+  pub failed : IsErrOf result Failed → new ≡ with_write_fault (with_call call old)
+  pub memory : IsErrOf result Memory → new ≡ with_call call old
 
 -- a state is stored as its fields, given how a call is
 abbrev pub state_code : Coded Call → Coded DepotState

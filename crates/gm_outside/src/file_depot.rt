@@ -1,5 +1,6 @@
 //! A depot over real files. Nothing is proved of what a file holds: it is the edge that is trusted.
-ghost use Rattle.std.specs.Prelude.{◌≡◌, ◌+◌, ◌≤◌, None, false, IsErrOf, IfErr};
+ghost use Rattle.std.specs.Prelude.{◌≡◌, ◌+◌, ◌≤◌, None, false, OnOk};
+ghost use Rattle.std.specs.Io.KnownBytes.{Consumes};
 ghost use Rattle.gm_outside.specs.Causes.{Rose};
 
 use crate::traits::{Depot, Trouble};
@@ -86,7 +87,7 @@ impl<R: Files + Drop> FileDepot<R> {
         }
         let mut file = File::open(&self.rt, name)?;
         file.seek(SeekFrom::Start(pos))?;
-        file.read_exact(into)
+        fill_from(&mut file, into)
     }
 
     fn create_file(&self, name: &str) -> io::Result<()> {
@@ -148,83 +149,136 @@ impl<R: Files + Drop> Depot for FileDepot<R> {
     }
 }
 
+/// Fills `into` by as many reads as it takes. It fails where the reader ends before.
+fn fill_from<T: Read>(reader: &mut T, into: &mut [u8]) -> io::Result<()>
+    ensures { OnOk result (Consumes (T.remaining reader.old) (T.remaining reader.new) into.new) }
+{
+    reader.read_exact(into)
+}
+
 #[cfg(test)]
 mod tests {
-    use super::FileDepot;
+    use super::{FileDepot, fill_from};
     use crate::reading::read_whole;
     use crate::traits::{Depot, Trouble};
     use std::fs;
+    use std::io::{self, Read};
     use std::test::Fail;
 
+    /// A reader of the numbers from `next` on, one at a read.
+    #[derive(Drop)]
+    struct OneByOne {
+        next: u8,
+    }
+
+    impl Read for OneByOne {
+        fn read(&mut self, into: &mut [u8]) -> io::Result<usize> {
+            if into.is_empty() {
+                return Ok(0);
+            }
+            into[0] = self.next;
+            self.next = self.next.wrapping_add(1);
+            Ok(1)
+        }
+    }
+
     #[test]
-    fn real_files(rt: HostRuntime) -> Result<(), Fail> {
-        fs::create_dir_all(&rt, "file_depot/sub")?;
-        fs::write(&rt, "file_depot/sub/part.bin", b"abcdef".as_slice())?;
-        fs::write(&rt, "file_depot/empty.bin", b"".as_slice())?;
+    fn short_reads_go_on(rt: HostRuntime) -> Result<(), Fail> {
+        let mut into = [0u8; 4];
+        fill_from(&mut OneByOne { next: 7 }, &mut into)?;
+        assert_eq!(rt; into, [7, 8, 9, 10]);
+        Ok(())
+    }
+
+    #[test]
+    fn sizes(rt: HostRuntime) -> Result<(), Fail> {
+        fs::write(&rt, "sizes.bin", b"abcdef".as_slice())?;
         let mut depot = FileDepot::new(rt.clone()?);
-        assert_eq!(rt; depot.size("file_depot/none.bin"), Ok(None));
-        assert_eq!(rt; depot.size("file_depot/sub/part.bin"), Ok(Some(6)));
-        assert_eq!(rt; depot.size("file_depot/empty.bin"), Ok(Some(0)));
-        assert_eq!(rt; depot.size("file_depot/sub"), Err(Trouble::Failed));
-        assert_eq!(rt; depot.size("/dev/null"), Err(Trouble::Failed));
-
-        let mut part = [0u8; 3];
-        assert_eq!(rt;
-            depot.read_at("file_depot/sub/part.bin", 2, &mut part),
-            Ok(())
-        );
-        assert_eq!(rt; part.as_slice(), b"cde".as_slice());
-        let ranges = [
-            ("file_depot/sub/part.bin", 6, 0, Ok(())),
-            ("file_depot/sub/part.bin", 7, 0, Err(Trouble::Failed)),
-            ("file_depot/sub/part.bin", 4, 3, Err(Trouble::Failed)),
-            ("file_depot/empty.bin", 0, 0, Ok(())),
-            ("file_depot/none.bin", 0, 0, Err(Trouble::Failed)),
-            ("file_depot/sub", 0, 0, Err(Trouble::Failed)),
-            ("/dev/null", 0, 0, Err(Trouble::Failed)),
+        let sizes = [
+            ("sizes.bin", Ok(Some(6))),
+            ("sizes_none.bin", Ok(None)),
+            (".", Err(Trouble::Failed)),
+            ("/dev/null", Err(Trouble::Failed)),
         ];
-        for (name, pos, count, want) in ranges {
+        for (name, want) in sizes {
+            assert_eq!(rt; depot.size(name), want, "{name}");
+        }
+        fs::remove_file(&rt, "sizes.bin")?;
+        Ok(())
+    }
+
+    #[test]
+    fn ranges(rt: HostRuntime) -> Result<(), Fail> {
+        fs::write(&rt, "ranges.bin", b"abcdef".as_slice())?;
+        let mut depot = FileDepot::new(rt.clone()?);
+        let ranges = [
+            ("ranges.bin", 2, "cde", Ok(())),
+            ("ranges.bin", 6, "", Ok(())),
+            ("ranges.bin", 7, "", Err(Trouble::Failed)),
+            ("ranges.bin", 4, "ef?", Err(Trouble::Failed)),
+            ("ranges_none.bin", 0, "", Err(Trouble::Failed)),
+            (".", 0, "", Err(Trouble::Failed)),
+            ("/dev/null", 0, "", Err(Trouble::Failed)),
+        ];
+        for (name, pos, bytes, want) in ranges {
             let mut into = [0u8; 3];
-            assert_eq!(rt;
-                depot.read_at(name, pos, &mut into[..count]),
-                want,
-                "{name} at {pos}"
-            );
+            let count = bytes.len().min(3);
+            let answer = depot.read_at(name, pos, &mut into[..count]);
+            assert_eq!(rt; answer, want, "{name} at {pos}");
+            assert!(rt; want.is_err() || &into[..count] == bytes.as_bytes());
         }
+        fs::remove_file(&rt, "ranges.bin")?;
+        Ok(())
+    }
 
-        let whole = read_whole(rt.alloc(), &mut depot, "file_depot/sub/part.bin", 6);
-        assert!(rt; whole.is_ok_and(|bytes| bytes.as_slice() == b"abcdef".as_slice()));
+    #[test]
+    fn whole_file(rt: HostRuntime) -> Result<(), Fail> {
+        fs::write(&rt, "whole.bin", b"abcdef".as_slice())?;
+        let mut depot = FileDepot::new(rt.clone()?);
+        let whole = read_whole(rt.alloc(), &mut depot, "whole.bin", 6)?;
+        assert_eq!(rt; whole.as_slice(), b"abcdef".as_slice());
+        fs::remove_file(&rt, "whole.bin")?;
+        Ok(())
+    }
 
-        assert_eq!(rt; depot.create("file_depot/sub/part.bin"), Ok(()));
-        assert_eq!(rt; depot.size("file_depot/sub/part.bin"), Ok(Some(0)));
-        assert_eq!(rt;
-            depot.append("file_depot/new.bin", b"x".as_slice()),
-            Err(Trouble::Failed)
-        );
-        assert_eq!(rt; depot.create("file_depot/new.bin"), Ok(()));
+    #[test]
+    fn appends(rt: HostRuntime) -> Result<(), Fail> {
+        fs::write(&rt, "appends.bin", b"old".as_slice())?;
+        let mut depot = FileDepot::new(rt.clone()?);
+        depot.create("appends.bin")?;
         for piece in ["ab", "", "cd"] {
-            assert_eq!(rt;
-                depot.append("file_depot/new.bin", piece.as_bytes()),
-                Ok(())
-            );
+            depot.append("appends.bin", piece.as_bytes())?;
         }
-        assert_eq!(rt;
-            fs::read_to_string(&rt, "file_depot/new.bin")?.as_str(),
-            "abcd"
-        );
-        for name in ["file_depot/sub", "/dev/null"] {
+        let text = fs::read_to_string(&rt, "appends.bin")?;
+        assert_eq!(rt; text.as_str(), "abcd");
+        fs::remove_file(&rt, "appends.bin")?;
+        Ok(())
+    }
+
+    #[test]
+    fn refused_writes(rt: HostRuntime) -> Result<(), Fail> {
+        let mut depot = FileDepot::new(rt.clone()?);
+        for name in [".", "/dev/null", "none/new.bin"] {
             assert_eq!(rt; depot.create(name), Err(Trouble::Failed), "{name}");
-            assert_eq!(rt;
-                depot.append(name, b"x".as_slice()),
-                Err(Trouble::Failed),
-                "{name}"
-            );
         }
-        assert_eq!(rt;
-            depot.create("file_depot/none/new.bin"),
-            Err(Trouble::Failed)
-        );
-        fs::remove_dir_all(&rt, "file_depot")?;
+        for name in [".", "/dev/null", "none.bin"] {
+            let answer = depot.append(name, b"x".as_slice());
+            assert_eq!(rt; answer, Err(Trouble::Failed), "{name}");
+        }
+        Ok(())
+    }
+
+    #[test]
+    fn good_calls_are_no_faults(rt: HostRuntime) -> Result<(), Fail> {
+        let mut depot = FileDepot::new(rt.clone()?);
+        depot.create("good.bin")?;
+        depot.append("good.bin", b"abc".as_slice())?;
+        depot.size("good.bin")?;
+        depot.read_at("good.bin", 1, &mut [0u8; 2])?;
+        assert_eq!(rt; depot.reads, 1);
+        assert_eq!(rt; depot.faults, 0);
+        assert_eq!(rt; depot.write_faults, 0);
+        fs::remove_file(&rt, "good.bin")?;
         Ok(())
     }
 }

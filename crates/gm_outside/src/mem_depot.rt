@@ -1,5 +1,5 @@
 //! A depot in memory, whose calls can be made to fail.
-ghost use Rattle.std.specs.Prelude.{◌≡◌, ◌↔◌, ◌≤◌, [], IsSome, IsNone, IsErrOf, List, ℕ, Bool, Option, Some, length, Contains, IsTrue, IsOk, IsErr, IfSome, IfOk, OnOk, OnErr, IfErr, is_ok, refl, if◌then◌else◌};
+ghost use Rattle.std.specs.Prelude.{◌≡◌, ◌↔◌, ◌≤◌, [], IsSome, IsNone, IsErrOf, Option, Some, length, Contains, IsTrue, IsOk, IsErr, IfOk, OnOk, OnErr, IfErr, is_ok, refl};
 ghost use Rattle.std.specs.Option.{option_copied};
 ghost use Rattle.std.specs.FinMap as map;
 ghost use Rattle.gm_outside.specs.Changes.{append_to, with_file, with_appended, AppendedPrefix};
@@ -61,6 +61,8 @@ impl Model for MemDepot {
 }
 
 impl MemDepot {
+    ghost use Rattle.gm_outside.specs.Memory.{calls_of, with_call, with_write_fault};
+
     /// A depot without files, whose listed calls fail.
     pub fn new(alloc: Global, fails: Vec<(Call, u64)>) -> MemDepot
         ensures { result ≡ record {
@@ -123,10 +125,25 @@ impl MemDepot {
         self.write_faults
     }
 
-    fn is_made_to_fail(&self, call: Call, number: u64) -> bool
-        ensures { IsTrue result ↔ Contains self.now.fails (call, number) }
+    /// Counts a call, and says whether it is made to fail.
+    fn begin(&mut self, call: Call) -> bool
+        ensures fails { IsTrue result ↔ Contains self.old.fails (call, counted (calls_of call self.old)) }
+        ensures counted { self.new ≡ with_call call self.old }
     {
+        let number = self.count(call);
         self.fails.contains(&(call, number))
+    }
+
+    fn count(&mut self, call: Call) -> u64
+        ensures number { result ≡ counted (calls_of call self.old) }
+        ensures counted { self.new ≡ with_call call self.old }
+    {
+        match call {
+            Call::Size => one_more(&mut self.sizes),
+            Call::Read => one_more(&mut self.reads),
+            Call::Create => one_more(&mut self.creates),
+            Call::Append => one_more(&mut self.appends),
+        }
     }
 
     fn fault(&mut self) -> Trouble
@@ -140,10 +157,7 @@ impl MemDepot {
 
     fn write_fault(&mut self) -> Trouble
         ensures trouble { result ≡ Trouble.Failed }
-        ensures after { self.new ≡ record self.old {
-          faults = counted self.old.faults;
-          write_faults = counted self.old.write_faults;
-        } }
+        ensures after { self.new ≡ with_write_fault self.old }
         ensures later { self.old.faults ≤ self.new.faults }
         ensures write_later { self.old.write_faults ≤ self.new.write_faults }
     {
@@ -154,7 +168,7 @@ impl MemDepot {
 
 #[tactic(auto, using(crate::specs::ChangesRules::changes))]
 impl Depot for MemDepot {
-    ghost use Rattle.gm_outside.specs.Memory.{is_calm};
+    ghost use Rattle.gm_outside.specs.Memory.{is_calm, with_answer, GivesUpWriting};
 
     ghost files = { λ depot. Some depot.files };
 
@@ -173,14 +187,9 @@ impl Depot for MemDepot {
         ensures ok { IfOk result (λ size. size ≡ size_of self.old.files name.now) }
         ensures err { IfErr result (λ trouble. trouble ≡ Trouble.Failed) }
         ensures cause { HasExactCause Trouble.Failed self.old.faults self.new.faults result }
-        ensures after { self.new ≡ record self.old {
-          sizes = counted self.old.sizes;
-          faults = if is_ok result then self.old.faults else counted self.old.faults;
-        } }
+        ensures after { self.new ≡ with_answer Call.Size (is_ok result) self.old }
     {
-        let number = self.sizes.saturating_add(1);
-        self.sizes = number;
-        if self.is_made_to_fail(Call::Size, number) {
+        if self.begin(Call::Size) {
             return Err(self.fault());
         }
         Ok(self.files.get(name).map(|bytes| bytes.len() as u64))
@@ -193,14 +202,9 @@ impl Depot for MemDepot {
             → (Contains self.old.fails (Call.Read, counted self.old.reads) → ⊥) → IsOk result }
         ensures err { IfErr result (λ trouble. trouble ≡ Trouble.Failed) }
         ensures cause { HasExactCause Trouble.Failed self.old.faults self.new.faults result }
-        ensures after { self.new ≡ record self.old {
-          reads = counted self.old.reads;
-          faults = if is_ok result then self.old.faults else counted self.old.faults;
-        } }
+        ensures after { self.new ≡ with_answer Call.Read (is_ok result) self.old }
     {
-        let number = self.reads.saturating_add(1);
-        self.reads = number;
-        if self.is_made_to_fail(Call::Read, number) {
+        if self.begin(Call::Read) {
             return Err(self.fault());
         }
         match self.files.range(name, pos, into.len()) {
@@ -219,18 +223,11 @@ impl Depot for MemDepot {
           creates = counted self.old.creates;
         }) }
         ensures told { OnOk result (Some self.new.files ≡ with_file (Some self.old.files) name.now []) }
-        ensures failed { IsErrOf result Trouble.Failed → self.new ≡ record self.old {
-          creates = counted self.old.creates;
-          faults = counted self.old.faults;
-          write_faults = counted self.old.write_faults;
-        } }
-        ensures memory { IsErrOf result Trouble.Memory → self.new ≡ record self.old { creates = counted self.old.creates } }
+        ensures gave_up { GivesUpWriting Call.Create self.old self.new result }
         ensures cause { HasExactCause Trouble.Failed self.old.faults self.new.faults result }
         ensures write_cause { HasCause Trouble.Failed self.old.write_faults self.new.write_faults result }
     {
-        let number = self.creates.saturating_add(1);
-        self.creates = number;
-        if self.is_made_to_fail(Call::Create, number) {
+        if self.begin(Call::Create) {
             return Err(self.write_fault());
         }
         self.files.put(name, &[])?;
@@ -249,18 +246,11 @@ impl Depot for MemDepot {
         }) }
         ensures told { OnOk result (Some self.new.files ≡ with_appended (Some self.old.files) name.now bytes.now) }
         ensures told_prefix { OnErr result (AppendedPrefix (Some self.old.files) (Some self.new.files) name.now bytes.now) }
-        ensures failed { IsErrOf result Trouble.Failed → self.new ≡ record self.old {
-          appends = counted self.old.appends;
-          faults = counted self.old.faults;
-          write_faults = counted self.old.write_faults;
-        } }
-        ensures memory { IsErrOf result Trouble.Memory → self.new ≡ record self.old { appends = counted self.old.appends } }
+        ensures gave_up { GivesUpWriting Call.Append self.old self.new result }
         ensures cause { HasExactCause Trouble.Failed self.old.faults self.new.faults result }
         ensures write_cause { HasCause Trouble.Failed self.old.write_faults self.new.write_faults result }
     {
-        let number = self.appends.saturating_add(1);
-        self.appends = number;
-        if self.is_made_to_fail(Call::Append, number) {
+        if self.begin(Call::Append) {
             return Err(self.write_fault());
         }
         match self.files.append(name, bytes) {
@@ -268,6 +258,14 @@ impl Depot for MemDepot {
             outcome => outcome,
         }
     }
+}
+
+fn one_more(count: &mut u64) -> u64
+    ensures raised { count.new ≡ counted count.old }
+    ensures answer { result ≡ count.new }
+{
+    *count = count.saturating_add(1);
+    *count
 }
 
 #[cfg(test)]

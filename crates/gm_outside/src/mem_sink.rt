@@ -1,6 +1,5 @@
 //! A sink in memory, whose writes fail exactly where they are told to.
-ghost use Rattle.std.specs.Prelude.{◌≡◌, ◌≢◌, ◌++◌, [], ℕ, Some, IsNone, IsOk, IsSomeAnd, OnOk, OnErr, IsErrOf, take, min, find, nat_eq, unwrap_or};
-ghost use Rattle.std.specs.Option.{option_map};
+ghost use Rattle.std.specs.Prelude.{◌≡◌, ◌≢◌, ◌++◌, [], Some, IsNone, IsOk, IsSomeAnd, OnOk, OnErr, IsErrOf, take, min, find, unwrap_or};
 ghost use Rattle.gm_outside.specs.Causes.{counted, HasCause, HasExactCause};
 ghost use Rattle.gm_outside.specs.Growth.{GrewBy, GrewByPrefix};
 

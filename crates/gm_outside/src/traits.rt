@@ -4,7 +4,7 @@ ghost use Rattle.std.specs.FinMap as map;
 ghost use Rattle.gm_outside.specs.Changes.{with_file, with_appended, AppendedPrefix};
 ghost use Rattle.gm_outside.specs.Causes.{counted, HasCause, HasExactCause};
 ghost use Rattle.gm_outside.specs.Files.{Files, size_of, HasRange, HasBytesAt};
-ghost use Rattle.gm_outside.specs.Frames.{SinkChange, Writes};
+ghost use Rattle.gm_outside.specs.Frames.{sink_change_of, Writes};
 ghost use Rattle.gm_outside.specs.declared.traits.Trouble.TheVariants.{Memory};
 
 use std::alloc::AllocError;
@@ -112,14 +112,8 @@ pub trait Sink {
 
     /// Adds a piece, or after a refusal only some first bytes of it. An empty piece is never refused.
     fn write(&mut self, piece: &[u8]) -> Result<(), Trouble>
-        ensures writes { Writes piece.now (record {
-          held = written self.old;
-          holds = written self.new;
-          faults = faults self.old;
-          faults_now = faults self.new;
-          lacks = lacks self.old;
-          lacks_now = lacks self.new;
-        }) result }
+        ensures writes { Writes piece.now (sink_change_of (written self.old) (written self.new) (faults self.old) (faults self.new)
+            (lacks self.old) (lacks self.new)) result }
         ensures empty { piece.now ≡ [] → IsOk result };
 }
 

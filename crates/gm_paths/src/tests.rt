@@ -1,4 +1,4 @@
-//! One and two rounds over a way of two edges and a dear edge beside it, worked out by hand.
+//! One and two rounds over a path of two edges and a dear edge beside it, worked out by hand.
 
 use crate::{Bfs, Sssp};
 use gm_base::{Edge, TOP};

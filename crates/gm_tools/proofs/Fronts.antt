@@ -218,6 +218,14 @@ pub piece_end : (index size count : ℕ) → index < size / TEXT_PIECE + min 1 (
     → index * TEXT_PIECE + count ≡ min ((index + 1) * TEXT_PIECE) size
 piece_end index size count below is = omega (arith, div_ceil_times size TEXT_PIECE (lit< tt))
 
+-- what was read before this piece, of the files as they were or as they are now
+pub front_at_piece : (n size index : ℕ) (files files_now : Option Files) (name : List ℕ) (reader : ReaderState) → files_now ≡ files
+    → index < size / TEXT_PIECE + min 1 (size % TEXT_PIECE)
+    → HasReadFront n files name size (min (index * TEXT_PIECE) size) reader → HasReadFront n files_now name size (index * TEXT_PIECE) reader
+front_at_piece n size index files files_now name reader kept below front =
+    subst (λ (f : Option Files). HasReadFront n f name size (index * TEXT_PIECE) reader) (sym kept)
+    (subst (λ (pos : ℕ). HasReadFront n files name size pos reader) (piece_start index size below) front)
+
 -- the lines of each piece up to one more
 pub lines_more : (n index : ℕ) (files : Option Files) (name : List ℕ) → ((piece : ℕ) → piece ≤ index → AreLinesTaken n files name (piece * TEXT_PIECE))
     → AreLinesTaken n files name ((index + 1) * TEXT_PIECE) → (piece : ℕ) → piece ≤ index + 1 → AreLinesTaken n files name (piece * TEXT_PIECE)

@@ -1,5 +1,5 @@
 -- What a build does, and how it ends.
-use Rattle.std.specs.Prelude.{◌≡◌, ℕ, ◌*◌, ◌++◌, length, ◌⊎◌, List, Option, IfSome, codes, decimal}
+use Rattle.std.specs.Prelude.{◌≡◌, ℕ, ◌*◌, ◌++◌, length, ◌⊎◌, List, Option, Result, IfSome, codes, decimal}
 use Rattle.gm_base.specs.declared.edge.Edge.{Edge}
 use Rattle.gm_base.specs.Graph.{IsSameGraph}
 use Rattle.gm_outside.specs.Files.{Files}
@@ -14,7 +14,7 @@ use Rattle.gm_commands.specs.declared.failure.Failure.{Failure}
 use Rattle.gm_commands.specs.declared.failure.Failure.TheVariants.{Refused, ReadFailed, WriteFailed, OutputFailed, OutOfMemory}
 use Rattle.gm_commands.specs.Commands.{BuildCommand}
 use Rattle.gm_commands.specs.Readings.{Reading}
-use Rattle.gm_commands.specs.Endings.{WritesNothing}
+use Rattle.gm_commands.specs.Endings.{Handles, WritesNothing}
 use Rattle.gm_tools.specs.EdgeReadings.{edges_reading, ListsEdges}
 
 -- a build reads the file of edges
@@ -46,6 +46,10 @@ pub record Builds (command : BuildCommand) (depot : DepotChange) (out : SinkChan
   pub built : MakesGrid command depot.files depot.files_now edges
   pub written : GrewBy out.held out.holds (output_of command edges)
 
+-- what a build does that succeeds
+abbrev pub BuildPerforms : BuildCommand → DepotChange → SinkChange → ℕ → Type 0
+BuildPerforms command depot out status = (status ≡ 0) × Builds command depot out
+
 -- The grid of the text's edges was built, and a first part of the output was written.
 pub record BuildsSilently (command : BuildCommand) (depot : DepotChange) (out : SinkChange) : Type 0 where
   pub edges : List Edge
@@ -68,6 +72,10 @@ BuildLeaves command depot out (WriteFailed operand) = (operand ≡ Grid) × Buil
 BuildLeaves command depot out OutputFailed = BuildsSilently command depot out
 BuildLeaves command depot out OutOfMemory =
     WritesNothing depot out ⊎ BuildsPartly command depot out ⊎ BuildsSilently command depot out
+
+-- what a build answers and leaves
+abbrev pub BuildHandles : BuildCommand → DepotChange → SinkChange → Result ℕ Failure → Type 0
+BuildHandles command depot out result = Handles (build_reading command) (BuildPerforms command) (BuildLeaves command) depot out result
 
 -- at most the file of this name has changed
 pub record KeepsOthers (name : List ℕ) (depot : DepotChange) : Type 0 where

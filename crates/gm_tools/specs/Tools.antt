@@ -6,7 +6,7 @@ use Rattle.gm_commands.specs.Commands.{Command, run, build}
 use Rattle.gm_commands.specs.Readings.{Reading, no_reading}
 use Rattle.gm_commands.specs.Endings.{Call, HasSucceeded, HasFailed}
 use Rattle.gm_tools.specs.EdgeReadings.{ReadsInPieces}
-use Rattle.gm_tools.specs.Builds.{build_reading, Builds, BuildLeaves, KeepsOthers}
+use Rattle.gm_tools.specs.Builds.{build_reading, BuildPerforms, BuildLeaves, KeepsOthers}
 
 -- the command, where it is one of the tools'
 abbrev pub tool_in : Option Command → Option Command
@@ -27,7 +27,7 @@ ToolReads (build command) depot = ReadsInPieces command.shape.n command.edges de
 -- what a tool does that succeeds
 abbrev pub ToolPerforms : Command → DepotChange → SinkChange → ℕ → Type 0
 ToolPerforms (run command) depot out status = ⊥
-ToolPerforms (build command) depot out status = (status ≡ 0) × Builds command depot out
+ToolPerforms (build command) depot out status = BuildPerforms command depot out status
 
 abbrev pub ToolSucceeds : Command → Call → Type 0
 ToolSucceeds command call = HasSucceeded tool_reading ToolPerforms command call

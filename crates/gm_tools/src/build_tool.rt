@@ -1,17 +1,10 @@
 //! One build: the edges of the text, the grid's file and the output.
 
-ghost use Rattle.std.specs.Prelude.{◌≡◌, ◌≤◌, ◌⊎◌, length, IfErr, IsErrOf, OnOk, OnErr, IsTrue};
-ghost use Rattle.gm_base.specs.declared.limits.TheConstants.{MAX_EDGES};
-ghost use Rattle.gm_base.specs.Graph.{IsGraph};
+ghost use Rattle.std.specs.Prelude.{◌≡◌, ◌≤◌};
 ghost use Rattle.gm_outside.specs.Calls.{depot_change, sink_change};
-ghost use Rattle.gm_outside.specs.Causes.{HasCause, HasExactCause};
-ghost use Rattle.gm_outside.specs.Changes.{HoldsPrefix};
-ghost use Rattle.gm_build.specs.Blocks.{built_file};
 ghost use Rattle.gm_commands.specs.Commands.{build_said};
-ghost use Rattle.gm_commands.specs.Endings.{EndsBy, OutputServed};
-ghost use Rattle.gm_commands.specs.Readings.{AreTaken, DepotServed};
 ghost use Rattle.gm_tools.specs.EdgeReadings.{ReadsInPieces};
-ghost use Rattle.gm_tools.specs.Builds.{output_text, build_reading, MakesGrid, Builds, BuildLeaves, KeepsOthers};
+ghost use Rattle.gm_tools.specs.Builds.{output_text, BuildHandles};
 
 use crate::edge_reading::list_edges;
 use gm_base::Edges;
@@ -38,20 +31,14 @@ fn output_line(edges: usize, blocks: u32) -> Line
     line
 }
 
-/// Reads the command's edges, makes their grid and writes the output.
+/// Reads the command's edges, makes their grid and writes the output. The answer is the status after it.
 pub fn run_build<D: Depot, K: Sink>(
     alloc: Global,
     command: &BuildCommand<'_>,
     depot: &mut D,
     out: &mut K,
-) -> Result<(), Failure>
-    ensures taken { OnOk result (AreTaken (build_reading (build_said command.now)) (D.files depot.old)) }
-    ensures builds { OnOk result (Builds (build_said command.now) (depot_change ⟦<D as Depot>⟧ depot.old depot.new) (sink_change ⟦<K as Sink>⟧ out.old out.new)) }
-    ensures served { OnOk result (DepotServed (depot_change ⟦<D as Depot>⟧ depot.old depot.new) × OutputServed (sink_change ⟦<K as Sink>⟧ out.old out.new)) }
-    ensures err { IfErr result (EndsBy (build_reading (build_said command.now))
-        (depot_change ⟦<D as Depot>⟧ depot.old depot.new) (sink_change ⟦<K as Sink>⟧ out.old out.new)) }
-    ensures leaves { IfErr result (BuildLeaves (build_said command.now)
-        (depot_change ⟦<D as Depot>⟧ depot.old depot.new) (sink_change ⟦<K as Sink>⟧ out.old out.new)) }
+) -> Result<u8, Failure>
+    ensures handles { BuildHandles (build_said command.now) (depot_change ⟦<D as Depot>⟧ depot.old depot.new) (sink_change ⟦<K as Sink>⟧ out.old out.new) result }
     ensures pieces { ReadsInPieces command.now.shape.n command.now.edges.now (depot_change ⟦<D as Depot>⟧ depot.old depot.new) }
     ensures faults { D.faults depot.old ≤ D.faults depot.new }
     ensures out_faults { K.faults out.old ≤ K.faults out.new }
@@ -63,6 +50,8 @@ pub fn run_build<D: Depot, K: Sink>(
         trouble,
     ))?;
     let output = output_line(edges.len(), parts * parts);
-    out.write(output.as_slice())
-        .map_err(|trouble| Failure::OutputFailed.by(trouble))
+    match out.write(output.as_slice()) {
+        Ok(()) => Ok(0),
+        Err(trouble) => Err(Failure::OutputFailed.by(trouble)),
+    }
 }

@@ -6,7 +6,6 @@ ghost use Rattle.gm_base.specs.declared.limits.TheConstants.{MAX_EDGES, MAX_VERT
 ghost use Rattle.gm_base.specs.Graph.{IsGraph};
 ghost use Rattle.gm_outside.specs.declared.traits.TheConstants.{MAX_COUNT};
 ghost use Rattle.gm_outside.specs.Calls.{depot_change};
-ghost use Rattle.gm_outside.specs.Causes.{counted};
 ghost use Rattle.gm_outside.specs.Files.{size_of};
 ghost use Rattle.gm_outside.specs.Frames.{OnlyReads};
 ghost use Rattle.gm_commands.specs.Readings.{DepotServed, IsReadingFailure, IsUnrefusedBefore, ReadsFiles};

@@ -95,22 +95,36 @@ fn texts_are_built_or_refused(rt: HostRuntime) -> Result<(), Fail> {
     Ok(())
 }
 
+const READ_FAILED: &[u8] = b"graphm: e.txt: read failed\n";
+
+const WRITE_FAILED: &[u8] = b"graphm: a.grid: write failed\n";
+
+/// A call that fails, or would if it were made, and then the status, the reads and the line.
+const FAILING: [(Call, u64, u8, u64, &[u8]); 8] = [
+    (Call::Size, 1, 6, 0, READ_FAILED),
+    (Call::Size, 2, 0, 1, b""),
+    (Call::Read, 1, 6, 1, READ_FAILED),
+    (Call::Read, 2, 0, 1, b""),
+    (Call::Create, 1, 6, 1, WRITE_FAILED),
+    (Call::Create, 2, 0, 1, b""),
+    (Call::Append, 1, 6, 1, WRITE_FAILED),
+    (Call::Append, 2, 0, 1, b""),
+];
+
 #[test]
 fn each_call_fails_in_turn(rt: HostRuntime) -> Result<(), Fail> {
-    let read_failed = b"graphm: e.txt: read failed\n".as_slice();
-    let write_failed = b"graphm: a.grid: write failed\n".as_slice();
-    let table = [
-        (Call::Size, 1, 6, b"".as_slice(), read_failed),
-        (Call::Read, 1, 6, b"", read_failed),
-        (Call::Create, 1, 6, b"", write_failed),
-        (Call::Append, 1, 6, b"", write_failed),
-        (Call::Append, 2, 0, OUTPUT, b""),
-    ];
-    for (kind, number, status, output, line) in table {
+    for (kind, number, status, reads, line) in FAILING {
         let end = call(&rt, &WORDS, LIST, &[(kind, number)], &[])?;
+        let (output, faults) = if status == 0 {
+            (OUTPUT, 0)
+        } else {
+            (b"".as_slice(), 1)
+        };
         assert_eq!(rt; end.status, status, "{kind:?} {number}");
         assert_eq!(rt; end.out.written(), output, "{kind:?} {number}");
         assert_eq!(rt; end.err.written(), line, "{kind:?} {number}");
+        assert_eq!(rt; end.depot.reads(), reads, "{kind:?} {number}");
+        assert_eq!(rt; end.depot.faults(), faults, "{kind:?} {number}");
     }
     Ok(())
 }
@@ -166,6 +180,60 @@ fn words_are_refused(rt: HostRuntime) -> Result<(), Fail> {
         assert_eq!(rt; end.out.written(), b"".as_slice(), "{words:?}");
         assert_eq!(rt; end.err.written(), line, "{words:?}");
         assert!(rt; has_grid(&end.depot, None), "{words:?}");
+    }
+    Ok(())
+}
+
+/// One edge of 16,384: its source, its destination and its weight.
+fn edge(number: u16) -> (u32, u32, u32) {
+    let number = u32::from(number);
+    (number, (number * 5 + 1) % 16_384, number % 7 + 1)
+}
+
+fn text_of_many_edges(rt: &HostRuntime) -> Result<Vec<u8>, Fail> {
+    let mut text = Vec::new(rt.alloc());
+    for number in 0..16_384 {
+        let (from, to, weight) = edge(number);
+        text.extend_from_slice(format!(in rt.alloc(); "{from} {to} {weight}\n")?.as_bytes())?;
+    }
+    Ok(text)
+}
+
+/// The grid of these edges in two ranges of 8,192 vertices, by how many edges each block has: counted apart from the program.
+fn grid_of_many_edges(rt: &HostRuntime) -> Result<Vec<u8>, Fail> {
+    let mut grid = b"GGRID001\0\x40\0\0\x02\0\0\0".to_vec(rt.alloc())?;
+    for count in [4_915_u64, 3_277, 3_277, 4_915] {
+        grid.extend_from_slice(&count.to_le_bytes())?;
+    }
+    for block in 0..4 {
+        for number in 0..16_384 {
+            let (from, to, weight) = edge(number);
+            if from / 8_192 * 2 + to / 8_192 == block {
+                grid.extend_from_slice(&from.to_le_bytes())?;
+                grid.extend_from_slice(&to.to_le_bytes())?;
+                grid.extend_from_slice(&weight.to_le_bytes())?;
+            }
+        }
+    }
+    Ok(grid)
+}
+
+/// First into a new file, and then over the one that is there.
+#[test]
+fn many_edges_are_built(rt: HostRuntime) -> Result<(), Fail> {
+    let mut words = Words::new(rt.alloc());
+    for word in ["build", "e.txt", "a.grid", "16384", "2"] {
+        words.push(word)?;
+    }
+    let mut depot = MemDepot::new(rt.alloc(), Vec::new(rt.alloc()));
+    depot.put("e.txt", &text_of_many_edges(&rt)?)?;
+    let grid = grid_of_many_edges(&rt)?;
+    for _time in 0..2 {
+        let mut out = MemSink::new(rt.alloc(), Vec::new(rt.alloc()));
+        let mut err = MemSink::new(rt.alloc(), Vec::new(rt.alloc()));
+        assert_eq!(rt; tool(rt.alloc(), &words, &mut depot, &mut out, &mut err), 0);
+        assert_eq!(rt; out.written(), b"edges 16384 blocks 4\n".as_slice());
+        assert!(rt; has_grid(&depot, Some(&grid)));
     }
     Ok(())
 }

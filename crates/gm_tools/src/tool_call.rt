@@ -45,7 +45,7 @@ pub fn tool<D: Depot, K: Sink, E: Sink>(
 {
     match read_command(words) {
         Some(Command::Build(build)) => {
-            let outcome = run_build(alloc, &build, depot, out).map(|()| 0);
+            let outcome = run_build(alloc, &build, depot, out);
             conclude(err, &Command::Build(build), outcome)
         }
         Some(Command::Run(_)) | None => {

@@ -1,3 +1,4 @@
 pub mod RunReadings
 pub mod RunReports
 pub mod RunEndings
+pub mod Promises

@@ -1,12 +1,12 @@
 -- How a call of the program ends.
-use Rattle.std.specs.Prelude.{◌≡◌, ◌≤◌, ℕ, ◌⊎◌}
+use Rattle.std.specs.Prelude.{◌≡◌, ◌≤◌, ℕ, ◌⊎◌, Result}
 use Rattle.gm_outside.specs.Frames.{DepotChange, SinkChange, OnlyReads}
 use Rattle.gm_outside.specs.Causes.{counted_times}
 use Rattle.gm_commands.specs.declared.failure.Failure.{Failure}
 use Rattle.gm_commands.specs.declared.failure.Failure.TheVariants.{Refused, ReadFailed, WriteFailed, OutputFailed, OutOfMemory}
 use Rattle.gm_commands.specs.Commands.{Command, run, build, RunCommand}
 use Rattle.gm_commands.specs.Readings.{Reading}
-use Rattle.gm_commands.specs.Endings.{Call, WritesNothing, HasSucceeded, HasFailed, IsComplete}
+use Rattle.gm_commands.specs.Endings.{Call, Handles, WritesNothing, HasSucceeded, HasFailed, IsComplete}
 use Rattle.gm_tools.specs.Tools.{tool_reading, ToolReads, ToolPerforms, ToolLeaves, ToolKeepsOthers}
 use Rattle.gm_top.specs.RunReadings.{run_reading}
 use Rattle.gm_top.specs.RunReports.{Reports, ReportsPartly}
@@ -39,6 +39,10 @@ Leaves (build command) depot out failure = ToolLeaves (build command) depot out 
 
 abbrev pub Fails : Command → Call → Type 0
 Fails command call = HasFailed reading_of Leaves command call
+
+-- what a command answers and leaves
+abbrev pub CommandHandles : Command → DepotChange → SinkChange → Result ℕ Failure → Type 0
+CommandHandles command depot out result = Handles (reading_of command) (Performs command) (Leaves command) depot out result
 
 -- how often a command reads its files: a run that succeeds twice, and any other at most twice
 abbrev pub Reads : Command → DepotChange → ℕ → Type 0

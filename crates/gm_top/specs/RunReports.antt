@@ -1,11 +1,12 @@
 -- What a run writes: the report of its jobs' lone runs over all edges of the grid.
-use Rattle.std.specs.Prelude.{◌≡◌, ℕ, Bool, true, false, if◌then◌else◌, List, [], ◌∷◌, Option, Some, IfSome}
+use Rattle.std.specs.Prelude.{◌≡◌, ◌<◌, ℕ, Bool, true, false, if◌then◌else◌, List, [], ◌∷◌, Option, Some, IfSome}
 use Rattle.std.specs.List.{list_any}
 use Rattle.std.specs.FinMap.{get}
 use Rattle.gm_base.specs.declared.edge.Edge.{Edge}
 use Rattle.gm_base.specs.declared.job.JobLine.{JobLine}
 use Rattle.gm_base.specs.declared.job.Outcome.{Outcome}
 use Rattle.gm_base.specs.declared.job.Outcome.TheVariants.{Done, Rounds, Read, Changed, Memory}
+use Rattle.gm_base.specs.Graph.{IsGraph}
 use Rattle.gm_kernel.specs.Runs.{lone_run}
 use Rattle.gm_outside.specs.Files.{Files}
 use Rattle.gm_outside.specs.Frames.{DepotChange, SinkChange}
@@ -36,6 +37,10 @@ status_after lines = if list_any is_failed lines then 1 else 0
 abbrev pub lone_line : ℕ → List Edge → Job → JobLine
 lone_line n edges job = record { name = job.name; version = 0; outcome = lone_run job.spec n edges }
 
+-- a run over n vertices ends at its bound only where that is below n
+abbrev pub FailsEarly : ℕ → Outcome → Type 0
+FailsEarly n outcome = (bound : ℕ) → outcome ≡ Rounds bound → bound < n
+
 -- These are the lines of the command's jobs: the files are there, one is a grid and the other tells a job, whose line is that of its
 -- lone run over all edges of the grid.
 pub record AreLinesOf (command : RunCommand) (files : Files) (lines : List JobLine) : Type 0 where
@@ -50,14 +55,17 @@ pub record AreLinesOf (command : RunCommand) (files : Files) (lines : List JobLi
   pub job : Job
   pub tells : job_of_text n text ≡ Some job
   pub lone : lines ≡ lone_line n (edges_of_grid blocks) job ∷ []
+  pub early : FailsEarly n (lone_run job.spec n (edges_of_grid blocks))
 
--- Whatever the depot tells: these are the lines of some job text's jobs, by their lone runs over some grid.
+-- Whatever the depot tells: these are the lines of some job text's jobs, by their lone runs over some graph.
 pub record AreSomeLines (lines : List JobLine) : Type 0 where
   pub n : ℕ
   pub edges : List Edge
+  pub graph : IsGraph n edges
   pub job : Job
   pub states : StatesJob n job
   pub lone : lines ≡ lone_line n edges job ∷ []
+  pub early : FailsEarly n (lone_run job.spec n edges)
 
 -- these lines are those of the command's jobs, where the files are told
 pub record AreReported (command : RunCommand) (files : Option Files) (lines : List JobLine) : Type 0 where

@@ -1,10 +1,14 @@
 //! The commands of the program, from their words to what they write and their status.
 #![tactic(auto)]
 
+mod here;
 mod rounds;
 mod run_call;
+mod starting;
 #[cfg(test)]
 mod tests;
 mod top_call;
 
+pub use here::run_here;
+pub use starting::program;
 pub use top_call::graphm;

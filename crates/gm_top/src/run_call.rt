@@ -1,14 +1,14 @@
 //! One run: the files, the job's rounds and the report.
 
-ghost use Rattle.std.specs.Prelude.{◌≡◌, ◌≤◌, [], ◌∷◌, length, IfOk, IfErr, OnOk, IfSome};
+ghost use Rattle.std.specs.Prelude.{◌≡◌, ◌≤◌, [], ◌∷◌, length, IfOk, OnOk, IfSome};
 ghost use Rattle.gm_base.specs.declared.limits.TheConstants.{MAX_EDGES, MAX_VERTICES};
 ghost use Rattle.gm_base.specs.Graph.{IsGraph};
 ghost use Rattle.gm_outside.specs.Calls.{depot_change, sink_change};
 ghost use Rattle.gm_outside.specs.Causes.{counted, counted_times};
 ghost use Rattle.gm_outside.specs.Frames.{OnlyReads};
 ghost use Rattle.gm_commands.specs.Commands.{run_said};
-ghost use Rattle.gm_commands.specs.Endings.{EndsBy, OutputServed};
-ghost use Rattle.gm_commands.specs.Readings.{AreTaken, DepotServed, ReadsFiles};
+ghost use Rattle.gm_commands.specs.Endings.{Handles};
+ghost use Rattle.gm_commands.specs.Readings.{ReadsFiles};
 ghost use Rattle.gm_top.specs.RunReadings.{grid_reading, jobs_reading, run_reading, HoldsGrid, TellsJob, StatesJob};
 ghost use Rattle.gm_top.specs.RunReports.{AreReported, Reports, is_failed};
 ghost use Rattle.gm_top.specs.RunEndings.{RunLeaves};
@@ -19,6 +19,7 @@ use gm_commands::{Failure, FileText, Operand, Refusal, RunCommand, read_file};
 use gm_grid::{Grid, ReadError, read_grid};
 use gm_jobs::laws::long_text_states_no_job;
 use gm_jobs::{Job, MAX_TEXT_BYTES, read_job};
+use gm_kernel::laws::jobs_settle_by_round_n;
 use gm_outside::{Depot, Sink};
 use gm_report::write;
 use std::alloc::Global;
@@ -93,6 +94,7 @@ fn compute<D: Depot>(
     let grid = load_grid(alloc, depot, command)?;
     let n = grid.shape.n();
     let job = load_job(alloc, depot, command, n)?;
+    jobs_settle_by_round_n();
     let outcome = lone_run(alloc, job.spec, n, grid.edges.as_slice())?;
     Ok(JobLine {
         name: job.name,
@@ -115,14 +117,8 @@ pub(crate) fn run<D: Depot, K: Sink>(
     depot: &mut D,
     out: &mut K,
 ) -> Result<u8, Failure>
-    ensures taken { OnOk result (AreTaken (run_reading (run_said command.now)) (D.files depot.old)) }
-    ensures reports { IfOk result (Reports (run_said command.now)
-        (depot_change ⟦<D as Depot>⟧ depot.old depot.new) (sink_change ⟦<K as Sink>⟧ out.old out.new)) }
-    ensures served { OnOk result (DepotServed (depot_change ⟦<D as Depot>⟧ depot.old depot.new) × OutputServed (sink_change ⟦<K as Sink>⟧ out.old out.new)) }
-    ensures err { IfErr result (EndsBy (run_reading (run_said command.now))
-        (depot_change ⟦<D as Depot>⟧ depot.old depot.new) (sink_change ⟦<K as Sink>⟧ out.old out.new)) }
-    ensures leaves { IfErr result (RunLeaves (run_said command.now)
-        (depot_change ⟦<D as Depot>⟧ depot.old depot.new) (sink_change ⟦<K as Sink>⟧ out.old out.new)) }
+    ensures handles { Handles (run_reading (run_said command.now)) (Reports (run_said command.now)) (RunLeaves (run_said command.now))
+        (depot_change ⟦<D as Depot>⟧ depot.old depot.new) (sink_change ⟦<K as Sink>⟧ out.old out.new) result }
     ensures status { IfOk result (λ status. status ≤ 1) }
     ensures read { OnOk result (D.reads depot.new ≡ counted_times 2 (D.reads depot.old)) }
     ensures reads { OnlyReads 2 (depot_change ⟦<D as Depot>⟧ depot.old depot.new) }

@@ -1,12 +1,15 @@
 //! The whole path over files in memory: texts, statuses, and each call failing in turn.
-use crate::graphm;
+use crate::{graphm, program};
 use gm_base::Words;
-use gm_outside::{Call, MemDepot, MemSink, OpenGate};
+use gm_outside::{Call, Depot, MemDepot, MemSink, NotingDepot, OpenGate};
+use std::env::Args;
+use std::io;
+use std::process::Abort;
 use std::sync::Arc;
 use std::test::Fail;
 
 /// Four vertices in two ranges: 0 to 1, 1 to 2, 0 to 2 of weight 5, 2 to 3.
-const WAY: &[u8] =
+const PATH: &[u8] =
     b"GGRID001\x04\0\0\0\x02\0\0\0\x01\0\0\0\0\0\0\0\x02\0\0\0\0\0\0\0\0\0\0\0\0\0\0\0\x01\0\0\0\0\0\0\0\0\0\0\0\x01\0\0\0\x01\0\0\0\x01\0\0\0\x02\0\0\0\x01\0\0\0\0\0\0\0\x02\0\0\0\x05\0\0\0\x02\0\0\0\x03\0\0\0\x01\0\0\0";
 
 const REPORT: &[u8] = b"job a version 0 done rounds 3\n0 0\n1 1\n2 1\n3 2\n";
@@ -20,77 +23,144 @@ const JOBS_FAILED: &[u8] = b"graphm: j.txt: read failed\n";
 
 /// How a call ended.
 #[derive(Drop)]
-struct End {
+struct End<D> {
     status: u8,
+    depot: D,
     out: MemSink,
     err: MemSink,
 }
 
 /// Calls the program with words that are parted by a blank each.
-fn call(
-    rt: &HostRuntime,
+fn call<R: AllocGlobal, D: Depot + Send>(
+    rt: &R,
     words: &str,
-    depot: MemDepot,
+    depot: D,
     out: MemSink,
     err: MemSink,
-) -> Result<End, Fail> {
+) -> Result<End<D>, Fail> {
     let mut all = Words::new(rt.alloc());
     for word in words.split(' ') {
         all.push(word)?;
     }
     let gate = Arc::new(rt.alloc(), OpenGate)?;
     let (mut out, mut err) = (out, err);
-    let (status, _depot) = graphm(rt, &all, depot, &mut out, &mut err, gate);
-    Ok(End { status, out, err })
+    let (status, depot) = graphm(rt, &all, depot, &mut out, &mut err, gate);
+    Ok(End {
+        status,
+        depot,
+        out,
+        err,
+    })
 }
 
-fn depot_of(rt: &HostRuntime, grid: &[u8], fails: Vec<(Call, u64)>) -> Result<MemDepot, Fail> {
-    let mut depot = MemDepot::new(rt.alloc(), fails);
-    depot.put("a.grid", grid)?;
-    depot.put("j.txt", b"job a bfs 0\n")?;
-    Ok(depot)
-}
-
-/// Runs the job over the grid, where this call fails.
-fn run_failing(rt: &HostRuntime, kind: Call, number: u64) -> Result<End, Fail> {
-    let fails = vec![in rt.alloc(); (kind, number)]?;
-    let depot = depot_of(rt, WAY, fails)?;
-    let (out, err) = (
-        MemSink::new(rt.alloc(), Vec::new(rt.alloc())),
-        MemSink::new(rt.alloc(), Vec::new(rt.alloc())),
-    );
-    call(rt, "run a.grid j.txt 1 1", depot, out, err)
-}
-
-/// Runs the words over these bytes as the grid.
-fn run_over(rt: &HostRuntime, words: &str, grid: &[u8]) -> Result<End, Fail> {
-    let depot = depot_of(rt, grid, Vec::new(rt.alloc()))?;
-    let (out, err) = (
-        MemSink::new(rt.alloc(), Vec::new(rt.alloc())),
-        MemSink::new(rt.alloc(), Vec::new(rt.alloc())),
-    );
+/// The same with sinks that don't fail.
+fn call_over<R: AllocGlobal, D: Depot + Send>(
+    rt: &R,
+    words: &str,
+    depot: D,
+) -> Result<End<D>, Fail> {
+    let out = MemSink::new(rt.alloc(), Vec::new(rt.alloc()));
+    let err = MemSink::new(rt.alloc(), Vec::new(rt.alloc()));
     call(rt, words, depot, out, err)
 }
 
+fn depot_of<R: AllocGlobal>(
+    rt: &R,
+    grid: &[u8],
+    fails: Vec<(Call, u64)>,
+) -> Result<MemDepot, Fail> {
+    let mut depot = MemDepot::new(rt.alloc(), fails);
+    depot.put("a.grid", grid)?;
+    depot.put("j.txt", b"job a bfs 0\n")?;
+    depot.put("e.txt", b"0 1\n")?;
+    Ok(depot)
+}
+
+/// Runs the words over these bytes as the grid.
+fn run_over(rt: &HostRuntime, words: &str, grid: &[u8]) -> Result<End<MemDepot>, Fail> {
+    call_over(rt, words, depot_of(rt, grid, Vec::new(rt.alloc()))?)
+}
+
+const RUN: &str = "run a.grid j.txt 1 1";
+
+const RUN_CALLS: [(Call, &str); 4] = [
+    (Call::Size, "a.grid"),
+    (Call::Read, "a.grid"),
+    (Call::Size, "j.txt"),
+    (Call::Read, "j.txt"),
+];
+
+const BUILD: &str = "build e.txt b.grid 4 2";
+
+const BUILD_CALLS: [(Call, &str); 4] = [
+    (Call::Size, "e.txt"),
+    (Call::Read, "e.txt"),
+    (Call::Create, "b.grid"),
+    (Call::Append, "b.grid"),
+];
+
+/// Does what the words say where the call of this kind and number fails. As many of the calls as stand here are made, and no other one.
+fn check_failing<R: AllocGlobal + Abort>(
+    rt: &R,
+    words: &str,
+    calls: &[(Call, &str)],
+    fails: (Call, u64),
+    line: &[u8],
+) -> Result<(), Fail> {
+    let depot = depot_of(rt, PATH, vec![in rt.alloc(); fails]?)?;
+    let end = call_over(rt, words, NotingDepot::new(rt.alloc(), depot))?;
+    let noted = end.depot.calls().ok_or("a note was lost")?;
+    assert_eq!(rt; noted.len(), calls.len(), "{words} {fails:?}");
+    for (noted, &(kind, name)) in noted.iter().zip(calls) {
+        assert_eq!(rt; noted.kind, kind, "{words} {fails:?}");
+        assert_eq!(rt; noted.name.as_str(), name, "{words} {fails:?}");
+    }
+    let (status, faults) = if line.is_empty() { (0, 0) } else { (6, 1) };
+    assert_eq!(rt; end.status, status, "{words} {fails:?}");
+    assert_eq!(rt; end.depot.depot().faults(), faults, "{words} {fails:?}");
+    assert_eq!(rt; end.err.written(), line, "{words} {fails:?}");
+    assert_eq!(rt;
+        end.out.written().is_empty(),
+        faults == 1,
+        "{words} {fails:?}"
+    );
+    Ok(())
+}
+
+/// A call that fails, or would if it were made, how many calls are made then, and the line.
+const FAILING_RUNS: [(Call, u64, usize, &[u8]); 6] = [
+    (Call::Size, 1, 1, GRID_FAILED),
+    (Call::Read, 1, 2, GRID_FAILED),
+    (Call::Size, 2, 3, JOBS_FAILED),
+    (Call::Read, 2, 4, JOBS_FAILED),
+    (Call::Size, 3, 4, b""),
+    (Call::Read, 3, 4, b""),
+];
+
+/// The same for a build.
+const FAILING_BUILDS: [(Call, u64, usize, &[u8]); 8] = [
+    (Call::Size, 1, 1, b"graphm: e.txt: read failed\n"),
+    (Call::Read, 1, 2, b"graphm: e.txt: read failed\n"),
+    (Call::Create, 1, 3, b"graphm: b.grid: write failed\n"),
+    (Call::Append, 1, 4, b"graphm: b.grid: write failed\n"),
+    (Call::Size, 2, 4, b""),
+    (Call::Read, 2, 4, b""),
+    (Call::Create, 2, 4, b""),
+    (Call::Append, 2, 4, b""),
+];
+
 #[test]
-fn each_call_fails_in_turn(rt: HostRuntime) -> Result<(), Fail> {
-    for kind in [Call::Size, Call::Read] {
-        for number in 1..4 {
-            let end = run_failing(&rt, kind, number)?;
-            let line = match number {
-                1 => GRID_FAILED,
-                2 => JOBS_FAILED,
-                _ => b"",
-            };
-            assert_eq!(rt;
-                end.status,
-                if number < 3 { 6 } else { 0 },
-                "{kind:?} {number}"
-            );
-            assert_eq!(rt; end.err.written(), line, "{kind:?} {number}");
-            let out: &[u8] = if number < 3 { b"" } else { REPORT };
-            assert_eq!(rt; end.out.written(), out, "{kind:?} {number}");
-        }
+fn each_call_of_a_run_fails_in_turn(rt: HostRuntime) -> Result<(), Fail> {
+    for (kind, number, made, line) in FAILING_RUNS {
+        check_failing(&rt, RUN, &RUN_CALLS[..made], (kind, number), line)?;
+    }
+    Ok(())
+}
+
+#[test]
+fn each_call_of_a_build_fails_in_turn(rt: HostRuntime) -> Result<(), Fail> {
+    for (kind, number, made, line) in FAILING_BUILDS {
+        check_failing(&rt, BUILD, &BUILD_CALLS[..made], (kind, number), line)?;
     }
     Ok(())
 }
@@ -98,19 +168,19 @@ fn each_call_fails_in_turn(rt: HostRuntime) -> Result<(), Fail> {
 #[test]
 fn a_sink_fails_at_its_first_write(rt: HostRuntime) -> Result<(), Fail> {
     for count in [0, 10, 45] {
-        let depot = depot_of(&rt, WAY, Vec::new(rt.alloc()))?;
+        let depot = depot_of(&rt, PATH, Vec::new(rt.alloc()))?;
         let out = MemSink::new(rt.alloc(), vec![in rt.alloc(); (1, count)]?);
         let err = MemSink::new(rt.alloc(), Vec::new(rt.alloc()));
-        let end = call(&rt, "run a.grid j.txt 1 1", depot, out, err)?;
+        let end = call(&rt, RUN, depot, out, err)?;
         assert_eq!(rt; end.status, 7);
         assert_eq!(rt; end.out.written().len(), count);
         assert!(rt; REPORT.starts_with(end.out.written()));
         assert_eq!(rt; end.err.written(), b"graphm: output failed\n".as_slice());
     }
-    let depot = depot_of(&rt, WAY, vec![in rt.alloc(); (Call::Read, 1)]?)?;
+    let depot = depot_of(&rt, PATH, vec![in rt.alloc(); (Call::Read, 1)]?)?;
     let out = MemSink::new(rt.alloc(), Vec::new(rt.alloc()));
     let err = MemSink::new(rt.alloc(), vec![in rt.alloc(); (1, 12)]?);
-    let end = call(&rt, "run a.grid j.txt 1 1", depot, out, err)?;
+    let end = call(&rt, RUN, depot, out, err)?;
     assert_eq!(rt; end.status, 6);
     assert_eq!(rt; end.err.written(), b"graphm: a.gr".as_slice());
     assert_eq!(rt; end.out.written().len(), 0);
@@ -148,7 +218,7 @@ const REFUSED: [(&str, u8, &[u8]); 12] = [
 #[test]
 fn words_and_files_are_refused(rt: HostRuntime) -> Result<(), Fail> {
     for (words, status, line) in REFUSED {
-        let end = run_over(&rt, words, WAY)?;
+        let end = run_over(&rt, words, PATH)?;
         assert_eq!(rt; end.status, status, "{words}");
         assert_eq!(rt; end.err.written(), line, "{words}");
         assert_eq!(rt; end.out.written().len(), 0, "{words}");
@@ -170,7 +240,7 @@ fn report_with_byte_changed(place: usize) -> Option<&'static [u8]> {
 
 /// The file with one byte changed in its lowest bit.
 fn changed_at(rt: &HostRuntime, place: usize) -> Result<Vec<u8>, Fail> {
-    let mut bytes = WAY.to_vec(rt.alloc())?;
+    let mut bytes = PATH.to_vec(rt.alloc())?;
     if place < bytes.len() {
         bytes[place] ^= 1;
     }
@@ -179,7 +249,7 @@ fn changed_at(rt: &HostRuntime, place: usize) -> Result<Vec<u8>, Fail> {
 
 /// The front of the file.
 fn cut_at(place: usize) -> &'static [u8] {
-    let file = WAY;
+    let file = PATH;
     if place < file.len() {
         &file[..place]
     } else {
@@ -216,7 +286,7 @@ fn refusal_with_byte_changed(place: usize) -> &'static str {
 #[test]
 fn each_byte_of_the_grid_counts(rt: HostRuntime) -> Result<(), Fail> {
     for place in 0..96 {
-        let end = run_over(&rt, "run a.grid j.txt 1 1", &changed_at(&rt, place)?)?;
+        let end = run_over(&rt, RUN, &changed_at(&rt, place)?)?;
         let refusal = refusal_with_byte_changed(place);
         let line = format!(in rt.alloc(); "graphm: a.grid: {refusal}\n")?;
         let (status, out, err) = match report_with_byte_changed(place) {
@@ -233,7 +303,7 @@ fn each_byte_of_the_grid_counts(rt: HostRuntime) -> Result<(), Fail> {
 #[test]
 fn each_cut_of_the_grid_is_refused(rt: HostRuntime) -> Result<(), Fail> {
     for size in 0..96 {
-        let cut = run_over(&rt, "run a.grid j.txt 1 1", cut_at(size))?;
+        let cut = run_over(&rt, RUN, cut_at(size))?;
         let expected = match size {
             0..=15 => 16,
             16..=47 => 48,
@@ -254,7 +324,7 @@ const CROSSED: &[u8] =
 /// One vertex.
 const ALONE: &[u8] = b"GGRID001\x01\0\0\0\x01\0\0\0\0\0\0\0\0\0\0\0";
 
-/// A way of three vertices over edges of the greatest weight.
+/// A path of three vertices over edges of the greatest weight.
 const HEAVY: &[u8] =
     b"GGRID001\x03\0\0\0\x01\0\0\0\x02\0\0\0\0\0\0\0\0\0\0\0\x01\0\0\0\xff\xff\xff\xff\x01\0\0\0\x02\0\0\0\xff\xff\xff\xff";
 
@@ -264,39 +334,39 @@ const LOOPED: &[u8] =
 
 /// A grid, a job of it, the status and the report.
 const JOBS: [(&[u8], &[u8], u8, &[u8]); 16] = [
-    (WAY, b"job a bfs 0", 0, REPORT),
+    (PATH, b"job a bfs 0", 0, REPORT),
     (
-        WAY,
+        PATH,
         b"job a sssp 0",
         0,
         b"job a version 0 done rounds 4\n0 0\n1 1\n2 2\n3 3\n",
     ),
     (
-        WAY,
+        PATH,
         b"job a sssp 0 rounds 4",
         0,
         b"job a version 0 done rounds 4\n0 0\n1 1\n2 2\n3 3\n",
     ),
     (
-        WAY,
+        PATH,
         b"job a sssp 0 rounds 3",
         1,
         b"job a version 0 failed rounds 3\n",
     ),
     (
-        WAY,
+        PATH,
         b"job a wcc",
         0,
         b"job a version 0 done rounds 3\n0 0\n1 0\n2 0\n3 0\n",
     ),
     (
-        WAY,
+        PATH,
         b"job a rank 1",
         0,
         b"job a version 0 done rounds 1\n0 150000000\n1 575000000\n2 1425000000\n3 1000000000\n",
     ),
     (
-        WAY,
+        PATH,
         b"job a rank 2",
         0,
         b"job a version 0 done rounds 2\n0 150000000\n1 213750000\n2 702500000\n3 1361250000\n",
@@ -363,9 +433,7 @@ fn each_kind_of_job_gives_its_report(rt: HostRuntime) -> Result<(), Fail> {
         let mut depot = MemDepot::new(rt.alloc(), Vec::new(rt.alloc()));
         depot.put("a.grid", grid)?;
         depot.put("j.txt", jobs)?;
-        let out = MemSink::new(rt.alloc(), Vec::new(rt.alloc()));
-        let err = MemSink::new(rt.alloc(), Vec::new(rt.alloc()));
-        let end = call(&rt, "run a.grid j.txt 1 1", depot, out, err)?;
+        let end = call_over(&rt, RUN, depot)?;
         assert_eq!(rt; end.status, status, "{jobs:?}");
         assert_eq!(rt; end.out.written(), report, "{jobs:?}");
         assert_eq!(rt; end.err.written().len(), 0, "{jobs:?}");
@@ -391,14 +459,109 @@ fn a_long_job_text_is_refused_unread(rt: HostRuntime) -> Result<(), Fail> {
         (1_048_577, 5, b"", refusal),
     ] {
         let fails = vec![in rt.alloc(); (Call::Read, if status == 0 { 3 } else { 2 })]?;
-        let mut depot = depot_of(&rt, WAY, fails)?;
+        let mut depot = depot_of(&rt, PATH, fails)?;
         depot.put("j.txt", &job_text(&rt, length)?)?;
-        let sink = MemSink::new(rt.alloc(), Vec::new(rt.alloc()));
-        let err = MemSink::new(rt.alloc(), Vec::new(rt.alloc()));
-        let end = call(&rt, "run a.grid j.txt 1 1", depot, sink, err)?;
+        let end = call_over(&rt, RUN, depot)?;
         assert_eq!(rt; end.status, status, "{length}");
         assert_eq!(rt; end.out.written(), out, "{length}");
         assert_eq!(rt; end.err.written(), line, "{length}");
     }
+    Ok(())
+}
+
+/// A tree of 8,191 vertices in 13 levels. Each edge of it stands there three times, of weights 3, 1 and 2; and one edge leads from the root to
+/// itself.
+fn tree(rt: &HostRuntime) -> Result<Vec<u8>, Fail> {
+    let mut grid = b"GGRID001\xff\x1f\0\0\x01\0\0\0\xfb\x5f\0\0\0\0\0\0".to_vec(rt.alloc())?;
+    grid.extend_from_slice(&[0; 12])?;
+    for child in 1..8_191_u32 {
+        for weight in [3_u32, 1, 2] {
+            grid.extend_from_slice(&((child - 1) / 2).to_le_bytes())?;
+            grid.extend_from_slice(&child.to_le_bytes())?;
+            grid.extend_from_slice(&weight.to_le_bytes())?;
+        }
+    }
+    Ok(grid)
+}
+
+/// The value of a vertex of the tree. A vertex's out-degree is 6, and the root's is 7: then 141,666,666 and 121,428,571 go over each edge.
+fn value_in_tree(kind: &str, vertex: u32) -> u32 {
+    match (kind, vertex) {
+        ("wcc", _) => 0,
+        ("rank 1", 0) => 271_428_571,
+        ("rank 1", 1 | 2) => 514_285_713,
+        ("rank 1", _) => 574_999_998,
+        _ => vertex.saturating_add(1).ilog2(),
+    }
+}
+
+#[test]
+fn a_tree_gives_its_levels(rt: HostRuntime) -> Result<(), Fail> {
+    for (kind, rounds) in [("bfs 0", 13), ("sssp 0", 13), ("wcc", 13), ("rank 1", 1)] {
+        let mut depot = MemDepot::new(rt.alloc(), Vec::new(rt.alloc()));
+        depot.put("a.grid", &tree(&rt)?)?;
+        depot.put("j.txt", format!(in rt.alloc(); "job a {kind}")?.as_bytes())?;
+        let end = call_over(&rt, RUN, depot)?;
+        let mut report = format!(in rt.alloc(); "job a version 0 done rounds {rounds}\n")?;
+        for vertex in 0..8_191 {
+            let value = value_in_tree(kind, vertex);
+            report.push_str(format!(in rt.alloc(); "{vertex} {value}\n")?.as_str())?;
+        }
+        assert_eq!(rt; end.status, 0, "{kind}");
+        assert!(rt; end.out.written() == report.as_bytes(), "{kind}");
+    }
+    Ok(())
+}
+
+/// Arguments that are parted by a blank each, the exit code, and what is written of them.
+const ARGUMENTS: [(&str, u8, &[u8], &[u8]); 5] = [
+    ("graphm run a.grid j.txt 1 1", 0, REPORT, b""),
+    (
+        "graphm run a.grid b.txt 1 1",
+        3,
+        b"",
+        b"graphm: b.txt: no such file\n",
+    ),
+    ("run a.grid j.txt 1 1", 2, b"", USAGE),
+    ("graphm run a.grid j.txt 1 1 ", 2, b"", USAGE),
+    ("", 2, b"", USAGE),
+];
+
+fn arguments_of(rt: &HostRuntime, words: &str) -> Result<Args, Fail> {
+    let mut arguments = Vec::new(rt.alloc());
+    for word in words.split(' ') {
+        arguments.push(String::from_str(rt.alloc(), word)?)?;
+    }
+    Ok(arguments.into_iter())
+}
+
+#[test]
+fn the_first_argument_is_no_word(rt: HostRuntime) -> Result<(), Fail> {
+    for (words, status, report, line) in ARGUMENTS {
+        let arguments = Ok(arguments_of(&rt, words)?);
+        let depot = depot_of(&rt, PATH, Vec::new(rt.alloc()))?;
+        let mut out = MemSink::new(rt.alloc(), Vec::new(rt.alloc()));
+        let mut err = MemSink::new(rt.alloc(), Vec::new(rt.alloc()));
+        let (code, _depot) = program(&rt, arguments, depot, &mut out, &mut err, OpenGate);
+        let shown = format!(in rt.alloc(); "{code:?}")?;
+        let expected = format!(in rt.alloc(); "ExitCode(unix_exit_status({status}))")?;
+        assert_eq!(rt; shown, expected, "{words}");
+        assert_eq!(rt; out.written(), report, "{words}");
+        assert_eq!(rt; err.written(), line, "{words}");
+    }
+    Ok(())
+}
+
+/// Arguments that can't be read as text are no words.
+#[test]
+fn unreadable_arguments_are_no_command(rt: HostRuntime) -> Result<(), Fail> {
+    let depot = depot_of(&rt, PATH, Vec::new(rt.alloc()))?;
+    let mut out = MemSink::new(rt.alloc(), Vec::new(rt.alloc()));
+    let mut err = MemSink::new(rt.alloc(), Vec::new(rt.alloc()));
+    let arguments = Err(io::Error::from(io::ErrorKind::InvalidData));
+    let (code, _depot) = program(&rt, arguments, depot, &mut out, &mut err, OpenGate);
+    let shown = format!(in rt.alloc(); "{code:?}")?;
+    assert_eq!(rt; shown.as_str(), "ExitCode(unix_exit_status(2))");
+    assert_eq!(rt; err.written(), USAGE);
     Ok(())
 }

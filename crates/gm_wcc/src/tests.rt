@@ -1,4 +1,4 @@
-//! Rounds over a way of two edges, against their direction and along it, worked out by hand.
+//! Rounds over a path of two edges, against their direction and along it, worked out by hand.
 
 use crate::Least;
 use gm_base::Edge;

@@ -5,7 +5,7 @@ pub returns-clause-value : goal.returns-clause-value
 returns-clause-value c = value_skipping_quiet
 
 pub returns-clause-round : goal.returns-clause-round
-returns-clause-round c = sums_skipping_quiet
+returns-clause-round c kernel = sums_skipping_quiet kernel
 
 pub returns-clause-job : goal.returns-clause-job
 returns-clause-job c = next_values_skipping_quiet

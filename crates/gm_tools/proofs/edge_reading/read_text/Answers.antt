@@ -1,4 +1,4 @@
-use Rattle.std.proofs.Common.{◌≡◌, ℕ, ◌+◌, ◌*◌, ◌≤◌, ◌<◌, ◌/◌, ◌%◌, min, length, take, arith, sym, subst, Option, ◌∙◌}
+use Rattle.std.proofs.Common.{◌≡◌, ℕ, ◌+◌, ◌*◌, ◌≤◌, ◌<◌, ◌/◌, ◌%◌, min, length, take, arith, subst, Option, ◌∙◌}
 use Rattle.std.proofs.lemmas.List.{length-take}
 use Rattle.std.proofs.lemmas.Result.{err_from_is_err_and}
 use Rattle.gm_outside.specs.Files.{Files}
@@ -6,7 +6,7 @@ use Rattle.gm_outside.specs.FramesRules.{only_reads-then}
 use Rattle.gm_commands.specs.ReadingsRules.{reading_failure-later}
 use Rattle.gm_tools.specs.declared.edge_reading.TheConstants.{TEXT_PIECE}
 use Rattle.gm_tools.specs.EdgeReadings.{edges_reading, HasReadFront, AreLinesTaken}
-use Rattle.gm_tools.proofs.Fronts.{lines_to, piece_start, piece_end, lines_more, unrefused_up_to}
+use Rattle.gm_tools.proofs.Fronts.{front_at_piece, lines_to, piece_start, piece_end, lines_more, unrefused_up_to}
 use Rattle.gm_tools.proofs.edge_reading.read_text.Goals as goal
 
 pub loop-index-preserved : goal.loop-index-preserved
@@ -18,9 +18,7 @@ loop-index-preserved g c =
     let name = c.args.name.now in
     let size = c.args.size in
     let below : index < size / TEXT_PIECE + min 1 (size % TEXT_PIECE) = omega (arith, c.loop-index-test.true, c.div_ceil-index-end.ensures, c.loop-index.auto.index-end) in
-    let at : HasReadFront n (g.D.Depot.files c.loop-index.depot) name size (index * TEXT_PIECE) c.loop-index.reader =
-    subst (λ (f : Option Files). HasReadFront n f name size (index * TEXT_PIECE) c.loop-index.reader) (sym i.1.files_kept)
-    (subst (λ (pos : ℕ). HasReadFront n files name size pos c.loop-index.reader) (piece_start index size below) i.0) in
+    let at = front_at_piece n size index files _ name _ i.1.files_kept below i.0 in
     let end : index * TEXT_PIECE + length (take c.min-count.result c.loop-index.buffer) ≡ min ((index + 1) * TEXT_PIECE) size =
     rw length-take (omega (arith, piece_end index size c.min-count.result below c.min-count.ensures, c.loop-index.auto.buffer, c.requires.room, c.min-count.ensures)) in
     let lines = subst (λ (f : Option Files). AreLinesTaken n f name (min ((index + 1) * TEXT_PIECE) size)) i.1.files_kept
@@ -34,21 +32,17 @@ loop-index-preserved g c =
 
 pub returns-in_err-read_piece-clause-err : goal.returns-in_err-read_piece-clause-err
 returns-in_err-read_piece-clause-err g c =
+    let index = c.loop-index.index in
+    let size = c.args.size in
     let i = c.loop-index.invariant in
     let p = err_from_is_err_and c.from_residual.result c.from_residual.ensures.1 in
-    let index = c.loop-index.index in
-    let n = c.args.n in
-    let name = c.args.name.now in
-    let size = c.args.size in
     let below : index < size / TEXT_PIECE + min 1 (size % TEXT_PIECE) = omega (arith, c.loop-index-test.true, c.div_ceil-index-end.ensures, c.loop-index.auto.index-end) in
-    let at : HasReadFront n (g.D.Depot.files c.loop-index.depot) name size (index * TEXT_PIECE) c.loop-index.reader =
-    subst (λ (f : Option Files). HasReadFront n f name size (index * TEXT_PIECE) c.loop-index.reader) (sym i.1.files_kept)
-    (subst (λ (pos : ℕ). HasReadFront n (g.D.Depot.files c.args.depot.now) name size pos c.loop-index.reader) (piece_start index size below) i.0) in
+    let at = front_at_piece c.args.n size index _ _ c.args.name.now _ i.1.files_kept below i.0 in
     let within : index * TEXT_PIECE + length (take c.min-count.result c.loop-index.buffer) ≤ size =
     rw length-take (omega (arith, c.min-count.ensures, piece_start index size below)) in
-    rw p.1 (rw p.2 (reading_failure-later g.D.Depot _ _ _ index (edges_reading n name) _ i.1 i.2
-    (λ operand reads. unrefused_up_to n index _ _ _ name i.3 (omega (arith, i.1.few_reads, c.read_piece.ensures.reads.few_reads)))
-    (c.in_err-read_piece.ensures.err n size at within)))
+    rw p.1 (rw p.2 (reading_failure-later g.D.Depot _ _ _ index (edges_reading c.args.n c.args.name.now) _ i.1 i.2
+    (λ operand reads. unrefused_up_to c.args.n index _ _ _ c.args.name.now i.3 (omega (arith, i.1.few_reads, c.read_piece.ensures.reads.few_reads)))
+    (c.in_err-read_piece.ensures.err c.args.n size at within)))
 
 pub returns-in_err-read_piece-clause-unrefused : goal.returns-in_err-read_piece-clause-unrefused
 returns-in_err-read_piece-clause-unrefused g c =

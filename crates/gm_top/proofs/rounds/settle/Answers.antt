@@ -15,13 +15,12 @@ returns-then-advance g c =
 
 pub loop-done-preserved : goal.loop-done-preserved
 loop-done-preserved g c =
-    let k = g.K.Kernel.functions c.args.kernel.now in
-    let edges = c.args.edges.now in
     let made = c.loop-done.invariant in
-    let changes = is_settled_by-next k c.args.n edges c.loop-done.done _ _ made.after c.advance.ensures.round ∙ sym c.advance.ensures.settled ∙ c.if-advance.false in
+    let k = g.K.Kernel.functions c.args.kernel.now in
+    let changes = is_settled_by-next k c.args.n _ c.loop-done.done _ _ made.after c.advance.ensures.round ∙ sym c.advance.ensures.settled ∙ c.if-advance.false in
     record {
-      after = round_of-next k c.args.n edges c.loop-done.done _ _ made.after c.advance.ensures.round;
-      unsettled = none_before-next (is_settled_by k c.args.n edges) (c.loop-done.done + 1) made.unsettled changes;
+      after = round_of-next k c.args.n _ c.loop-done.done _ _ made.after c.advance.ensures.round;
+      unsettled = none_before-next (is_settled_by k c.args.n c.args.edges.now) (c.loop-done.done + 1) made.unsettled changes;
       all_values = c.advance.ensures.value_count ∙ made.all_values;
       all_sums = c.advance.ensures.sum_count ∙ made.all_values;
     }

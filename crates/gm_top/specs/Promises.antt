@@ -1,0 +1,51 @@
+-- What the program promises of each call, whatever its words and its files are.
+use Rattle.std.specs.Prelude.{◌≡◌, ◌≤◌, ◌↔◌, ◌⊎◌, ℕ, List, [], None, IfSome, Result, Ok, Err, map, drop, string_bytes}
+use Rattle.std.specs.Vec.Iter.{into_iter_items}
+use Rattle.std.specs.declared.vec.IntoIter.{IntoIter}
+use Rattle.std.specs.declared.string.String.{String}
+use Rattle.std.specs.Global.{Global}
+use Rattle.gm_outside.specs.Causes.{Rose}
+use Rattle.gm_commands.specs.Commands.{command_of}
+use Rattle.gm_commands.specs.Endings.{Call, AsksNothing, IsUsageCall}
+use Rattle.gm_commands.specs.StandardError.{IsSaid, out_of_memory_line}
+use Rattle.gm_top.specs.RunEndings.{Succeeds, Fails, IsCompleteFor, KeepsFiles, Reads}
+
+-- The program's promises, by the status of the call and by the command that its words say.
+pub record KeepsPromises (call : Call) : Type 0 where
+  -- 2 comes exactly where the words are no command: then nothing is asked or written but the usage line
+  pub usage : (call.status ≡ 2) ↔ (command_of call.words ≡ None)
+  pub usage_call : call.status ≡ 2 → IsUsageCall call
+  -- on 0 and 1 the command did what it is for, with no fault and no word on standard error
+  pub report : call.status ≤ 1 → IfSome (command_of call.words) (λ command. Succeeds command call)
+  -- from 3 on a failure ended it that has its cause, and its line was said
+  pub error_line : 3 ≤ call.status → IfSome (command_of call.words) (λ command. Fails command call)
+  -- an undisturbed call answers what the command and the files give
+  pub completeness : IfSome (command_of call.words) (λ command. IsCompleteFor command call.depot call.out call.status)
+  pub files : IfSome (command_of call.words) (λ command. KeepsFiles command call.depot)
+  pub reads : IfSome (command_of call.words) (λ command. Reads command call.depot call.status)
+  pub read_or_write_fault : call.status ≡ 6 → Rose call.depot.faults call.depot.faults_now
+  pub output_fault : call.status ≡ 7 → Rose call.out.faults call.out.faults_now
+  pub calm : call.depot.calm_now ≡ call.depot.calm
+  pub faults : call.depot.faults ≤ call.depot.faults_now
+  pub out_faults : call.out.faults ≤ call.out.faults_now
+
+-- there was no memory before the words were known: nothing was asked or written but the line that says so
+pub record LacksWords (call : Call) : Type 0 where
+  pub status_is : call.status ≡ 8
+  pub nothing : AsksNothing call.depot call.out
+  pub line : IsSaid out_of_memory_line call.err
+
+-- the words of a call: its arguments behind the first one, which is the program's name, and none where they can't be read as text
+abbrev pub words_of : {E : Type 0} → Result (IntoIter (String Global) Global) E → List (List ℕ)
+words_of (Ok arguments) = drop 1 (map string_bytes (into_iter_items arguments))
+words_of (Err error) = []
+
+-- the call keeps the promises, or there was no memory for its words
+abbrev pub ServesArguments : Call → Type 0
+ServesArguments call = KeepsPromises call ⊎ LacksWords call
+
+-- a call that serves its arguments ended with this status
+pub record EndsSomeCall (status : ℕ) : Type 0 where
+  pub call : Call
+  pub serves : ServesArguments call
+  pub status_is : call.status ≡ status

@@ -1,0 +1,8 @@
+//! The program of `graphm` once more, for a stored run that ends with 0; that of `graphm` ends with 1.
+#![tactic(auto)]
+
+use std::process::ExitCode;
+
+fn main(rt: HostRuntime) -> ExitCode {
+    gm_top::run_here(&rt)
+}
