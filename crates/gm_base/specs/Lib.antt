@@ -5,3 +5,4 @@ pub mod DimensionsRules
 pub mod Numbers
 pub mod Names
 pub mod Examples
+pub mod ChunkCounts

@@ -11,14 +11,14 @@ use Rattle.gm_commands.specs.Readings.{Reading, AreTaken, DepotFailed, DepotServ
 use Rattle.gm_commands.specs.StandardError.{error_line, usage_line, IsSaid, SaysNothing}
 
 -- A call: its words, what it did to the depot, to standard output and to standard error, and its status.
-pub record Call : Type 0 where
+pub record CommandCall : Type 0 where
   pub words : List (List ℕ)
   pub depot : DepotChange
   pub out : SinkChange
   pub err : SinkChange
   pub status : ℕ
 
-abbrev pub call_of : List (List ℕ) → DepotChange → SinkChange → SinkChange → ℕ → Call
+abbrev pub call_of : List (List ℕ) → DepotChange → SinkChange → SinkChange → ℕ → CommandCall
 call_of words depot out err status = record { words = words; depot = depot; out = out; err = err; status = status }
 
 -- no write to standard output failed
@@ -59,7 +59,7 @@ pub record Handles (reading : Reading) (Performs : DepotChange → SinkChange �
 
 -- The command's files aren't refused, it did what it is for, no call failed, and nothing was said.
 pub record HasSucceeded (reading : Command → Reading) (Performs : Command → DepotChange → SinkChange → ℕ → Type 0)
-    (command : Command) (call : Call) : Type 0 where
+    (command : Command) (call : CommandCall) : Type 0 where
   pub taken : AreTaken (reading command) call.depot.files
   pub performs : Performs command call.depot call.out call.status
   pub depot_served : DepotServed call.depot
@@ -68,7 +68,7 @@ pub record HasSucceeded (reading : Command → Reading) (Performs : Command → 
 
 -- This failure, which has its cause, ended the command: its line was said, and this is what it leaves.
 pub record HasFailed (reading : Command → Reading) (Leaves : Command → DepotChange → SinkChange → Failure → Type 0)
-    (command : Command) (call : Call) : Type 0 where
+    (command : Command) (call : CommandCall) : Type 0 where
   pub failure : Failure
   pub status_is : call.status ≡ status_of failure
   pub cause : EndsBy (reading command) call.depot call.out failure
@@ -76,7 +76,7 @@ pub record HasFailed (reading : Command → Reading) (Leaves : Command → Depot
   pub line : IsSaid (error_line command failure) call.err
 
 -- the words are no command
-pub record IsUsageCall (call : Call) : Type 0 where
+pub record IsUsageCall (call : CommandCall) : Type 0 where
   pub nothing : AsksNothing call.depot call.out
   pub line : IsSaid usage_line call.err
 

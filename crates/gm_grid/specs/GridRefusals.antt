@@ -1,10 +1,10 @@
 -- Which bytes are refused as a grid, and for what: the first that applies, in the order of `grid_refusal`.
-use Rattle.std.specs.Prelude.{ℕ, ◌==◌, not, nat_lt, max, if◌then◌else◌, Bool, List, length, take, sum, sum_by, bytes_eq, Option, Some, None, option_map, Result, Ok, Err}
-use Rattle.std.specs.Int.{div_ceil}
+use Rattle.std.specs.Prelude.{ℕ, ◌==◌, not, nat_lt, if◌then◌else◌, Bool, List, length, take, sum, bytes_eq, Option, Some, None, option_map, Result, Ok, Err}
 use Rattle.std.specs.List.{position}
 use Rattle.std.specs.Option.{option_or}
 use Rattle.gm_base.specs.declared.edge.Edge.{Edge}
 use Rattle.gm_base.specs.declared.limits.TheConstants.{MAX_EDGES, MAX_CHUNKS}
+use Rattle.gm_base.specs.ChunkCounts.{chunk_count}
 use Rattle.gm_base.specs.Dimensions.{Dimensions, are_dimensions}
 use Rattle.gm_grid.specs.declared.grid_error.GridError.{GridError}
 use Rattle.gm_grid.specs.declared.grid_error.GridError.TheVariants.{BadMagic, BadShape, TooManyEdges, BadSize, TooManyChunks, BadEdge}
@@ -32,14 +32,6 @@ index_refusal counts = if nat_lt MAX_EDGES (sum counts) then Some (TooManyEdges 
 -- why a file of so many bytes, which should have so many, is no grid
 abbrev pub size_refusal : ℕ → ℕ → Option GridError
 size_refusal size expected = if size == expected then None else Some (BadSize size expected)
-
--- how many chunks of this size a block of so many edges is cut into: at least one
-abbrev pub chunks_of_block : ℕ → ℕ → ℕ
-chunks_of_block chunk_size count = max 1 (div_ceil count chunk_size)
-
--- how many chunks blocks of so many edges each are cut into
-abbrev pub chunk_count : ℕ → List ℕ → ℕ
-chunk_count chunk_size counts = sum_by (chunks_of_block chunk_size) counts
 
 -- an edge that may not stand in this block
 abbrev pub is_misplaced : Dimensions → ℕ × Edge → Bool

@@ -3,7 +3,8 @@
 
 ghost use Rattle.std.specs.Prelude.{◌≡◌, Some, None, [], ◌∷◌, take};
 ghost use Rattle.gm_grid.specs.Format.{IsGrid};
-ghost use Rattle.gm_grid.specs.GridRefusals.{chunk_count, refusal_by_chunks, grid_refusal, unchunked_refusal};
+ghost use Rattle.gm_base.specs.ChunkCounts.{chunk_count};
+ghost use Rattle.gm_grid.specs.GridRefusals.{refusal_by_chunks, grid_refusal, unchunked_refusal};
 ghost use Rattle.gm_grid.specs.SmallGrids.{path_file, path_blocks, one_vertex_file, head_of_another_kind, file_without_vertices, head_of_too_many_ranges, file_of_vast_blocks, file_with_second_edge, edge_of_last_block, edge_to_no_vertex};
 
 use crate::GridError;

@@ -1,27 +1,29 @@
-//! A depot over real files. Nothing is proved of what a file holds: it is the edge that is trusted.
-ghost use Rattle.std.specs.Prelude.{◌≡◌, ◌+◌, ◌≤◌, None, false, OnOk};
-ghost use Rattle.std.specs.Io.KnownBytes.{Consumes};
+//! A depot over real files, which counts its reads and faults.
+ghost use Rattle.std.specs.Prelude.{◌≡◌, ◌≤◌, None, false};
 ghost use Rattle.gm_outside.specs.Causes.{Rose};
 
+use crate::regular_files::RegularFiles;
 use crate::traits::{Depot, Trouble};
-use crate::writing::write_piece;
-use std::fs::File;
-use std::io::{ErrorKind, Read, Seek, SeekFrom};
+use std::alloc::AllocGlobal;
+use std::io::{self, ErrorKind};
 use std::rt::Files;
-use std::{fs, io};
 
 /// The regular files of a runtime, by their paths. It doesn't tell what they hold.
 ///
 /// A folder, or anything else that isn't a regular file, is a fault.
+///
+/// The file of the last read stays open for the next one. A file that another process replaces or removes by its name
+/// meanwhile is read in its old form until it is closed: by a call of `size`, `create` or `append` with its name, by a read of
+/// another file or of no bytes, or by a read that fails.
 #[derive(Drop)]
-pub struct FileDepot<R> {
-    rt: R,
+pub struct FileDepot<R: Files> {
+    files: RegularFiles<R>,
     reads: u64,
     faults: u64,
     write_faults: u64,
 }
 
-impl<R: Files + Drop> FileDepot<R> {
+impl<R: Files + AllocGlobal + Drop> FileDepot<R> {
     /// A depot over the files of `rt`, with no call and no fault so far.
     pub fn new(rt: R) -> FileDepot<R>
         ensures reads { ⟦<FileDepot<R> as Depot>⟧.reads result ≡ 0 }
@@ -29,7 +31,7 @@ impl<R: Files + Drop> FileDepot<R> {
         ensures write_faults { ⟦<FileDepot<R> as Depot>⟧.write_faults result ≡ 0 }
     {
         FileDepot {
-            rt,
+            files: RegularFiles::new(rt),
             reads: 0,
             faults: 0,
             write_faults: 0,
@@ -66,47 +68,10 @@ impl<R: Files + Drop> FileDepot<R> {
         }
         trouble
     }
-
-    /// The length of a regular file, or `None` where there is nothing of this name. It opens nothing, and
-    /// is asked before each opening, since opening a pipe may wait without end.
-    fn file_size(&self, name: &str) -> io::Result<Option<u64>> {
-        match fs::metadata(&self.rt, name) {
-            Ok(metadata) if metadata.is_file() => Ok(Some(metadata.len())),
-            Ok(_) => Err(io::Error::from(ErrorKind::InvalidInput)),
-            Err(error) if error.kind() == ErrorKind::NotFound => Ok(None),
-            Err(error) => Err(error),
-        }
-    }
-
-    fn read_range(&self, name: &str, pos: u64, into: &mut [u8]) -> io::Result<()> {
-        let Some(size) = self.file_size(name)? else {
-            return Err(io::Error::from(ErrorKind::NotFound));
-        };
-        if size < pos || size - pos < into.len() as u64 {
-            return Err(io::Error::from(ErrorKind::UnexpectedEof));
-        }
-        let mut file = File::open(&self.rt, name)?;
-        file.seek(SeekFrom::Start(pos))?;
-        fill_from(&mut file, into)
-    }
-
-    fn create_file(&self, name: &str) -> io::Result<()> {
-        self.file_size(name)?;
-        File::create(&self.rt, name)?;
-        Ok(())
-    }
-
-    fn append_bytes(&self, name: &str, bytes: &[u8]) -> io::Result<()> {
-        self.file_size(name)?;
-        let mut options = File::options();
-        options.append(true);
-        let mut file = options.open(&self.rt, name)?;
-        write_piece(&mut file, bytes)
-    }
 }
 
 #[tactic(auto, using(crate::specs::ChangesRules::changes))]
-impl<R: Files + Drop> Depot for FileDepot<R> {
+impl<R: Files + AllocGlobal + Drop> Depot for FileDepot<R> {
     ghost files = { λ _. None };
 
     ghost calm = { λ _. false };
@@ -120,7 +85,7 @@ impl<R: Files + Drop> Depot for FileDepot<R> {
     ghost calm_tells = { λ _ h. h };
 
     fn size(&mut self, name: &str) -> Result<Option<u64>, Trouble> {
-        match self.file_size(name) {
+        match self.files.size(name) {
             Ok(size) => Ok(size),
             Err(error) => Err(self.count_fault(error)),
         }
@@ -128,67 +93,34 @@ impl<R: Files + Drop> Depot for FileDepot<R> {
 
     fn read_at(&mut self, name: &str, pos: u64, into: &mut [u8]) -> Result<(), Trouble> {
         self.reads = self.reads.saturating_add(1);
-        match self.read_range(name, pos, into) {
+        match self.files.read(name, pos, into) {
             Ok(()) => Ok(()),
             Err(error) => Err(self.count_fault(error)),
         }
     }
 
     fn create(&mut self, name: &str) -> Result<(), Trouble> {
-        match self.create_file(name) {
+        match self.files.create(name) {
             Ok(()) => Ok(()),
             Err(error) => Err(self.count_write_fault(error)),
         }
     }
 
     fn append(&mut self, name: &str, bytes: &[u8]) -> Result<(), Trouble> {
-        match self.append_bytes(name, bytes) {
+        match self.files.append(name, bytes) {
             Ok(()) => Ok(()),
             Err(error) => Err(self.count_write_fault(error)),
         }
     }
 }
 
-/// Fills `into` by as many reads as it takes. It fails where the reader ends before.
-fn fill_from<T: Read>(reader: &mut T, into: &mut [u8]) -> io::Result<()>
-    ensures { OnOk result (Consumes (T.remaining reader.old) (T.remaining reader.new) into.new) }
-{
-    reader.read_exact(into)
-}
-
 #[cfg(test)]
 mod tests {
-    use super::{FileDepot, fill_from};
+    use super::FileDepot;
     use crate::reading::read_whole;
     use crate::traits::{Depot, Trouble};
     use std::fs;
-    use std::io::{self, Read};
     use std::test::Fail;
-
-    /// A reader of the numbers from `next` on, one at a read.
-    #[derive(Drop)]
-    struct OneByOne {
-        next: u8,
-    }
-
-    impl Read for OneByOne {
-        fn read(&mut self, into: &mut [u8]) -> io::Result<usize> {
-            if into.is_empty() {
-                return Ok(0);
-            }
-            into[0] = self.next;
-            self.next = self.next.wrapping_add(1);
-            Ok(1)
-        }
-    }
-
-    #[test]
-    fn short_reads_go_on(rt: HostRuntime) -> Result<(), Fail> {
-        let mut into = [0u8; 4];
-        fill_from(&mut OneByOne { next: 7 }, &mut into)?;
-        assert_eq!(rt; into, [7, 8, 9, 10]);
-        Ok(())
-    }
 
     #[test]
     fn sizes(rt: HostRuntime) -> Result<(), Fail> {
@@ -265,6 +197,81 @@ mod tests {
             let answer = depot.append(name, b"x".as_slice());
             assert_eq!(rt; answer, Err(Trouble::Failed), "{name}");
         }
+        Ok(())
+    }
+
+    #[test]
+    fn reads_after_writes(rt: HostRuntime) -> Result<(), Fail> {
+        fs::write(&rt, "after.bin", b"abc".as_slice())?;
+        let mut depot = FileDepot::new(rt.clone()?);
+        let mut into = [0u8; 3];
+        depot.read_at("after.bin", 0, &mut into)?;
+        depot.append("after.bin", b"de".as_slice())?;
+        depot.read_at("after.bin", 2, &mut into)?;
+        assert_eq!(rt; into, *b"cde");
+        depot.create("after.bin")?;
+        let answer = depot.read_at("after.bin", 0, &mut into);
+        assert_eq!(rt; answer, Err(Trouble::Failed));
+        depot.append("after.bin", b"xyz".as_slice())?;
+        depot.read_at("after.bin", 0, &mut into)?;
+        assert_eq!(rt; into, *b"xyz");
+        assert_eq!(rt; depot.faults, 1);
+        fs::remove_file(&rt, "after.bin")?;
+        Ok(())
+    }
+
+    #[test]
+    fn reads_past_the_end_of_an_open_file(rt: HostRuntime) -> Result<(), Fail> {
+        fs::write(&rt, "end.bin", b"abcdef".as_slice())?;
+        let mut depot = FileDepot::new(rt.clone()?);
+        let mut into = [0u8; 3];
+        for (pos, count) in [(4, 3), (6, 1), (7, 0), (u64::MAX, 1)] {
+            depot.read_at("end.bin", 3, &mut into)?;
+            assert_eq!(rt; into, *b"def");
+            let answer = depot.read_at("end.bin", pos, &mut into[..count]);
+            assert_eq!(rt; answer, Err(Trouble::Failed), "{count} at {pos}");
+        }
+        assert_eq!(rt; depot.reads, 8);
+        assert_eq!(rt; depot.faults, 4);
+        fs::remove_file(&rt, "end.bin")?;
+        Ok(())
+    }
+
+    #[test]
+    fn reads_of_two_files_in_turn(rt: HostRuntime) -> Result<(), Fail> {
+        fs::write(&rt, "turn_a.bin", b"abcdef".as_slice())?;
+        fs::write(&rt, "turn_b.bin", b"uvwxyz".as_slice())?;
+        let mut depot = FileDepot::new(rt.clone()?);
+        let reads = [
+            ("turn_a.bin", 0, *b"ab"),
+            ("turn_b.bin", 4, *b"yz"),
+            ("turn_b.bin", 0, *b"uv"),
+            ("turn_a.bin", 4, *b"ef"),
+            ("turn_a.bin", 2, *b"cd"),
+        ];
+        for (name, pos, want) in reads {
+            let mut into = [0u8; 2];
+            depot.read_at(name, pos, &mut into)?;
+            assert_eq!(rt; into, want, "{name} at {pos}");
+        }
+        fs::remove_file(&rt, "turn_a.bin")?;
+        fs::remove_file(&rt, "turn_b.bin")?;
+        Ok(())
+    }
+
+    #[test]
+    fn an_open_file_is_read_until_its_size_is_asked(rt: HostRuntime) -> Result<(), Fail> {
+        fs::write(&rt, "open.bin", b"abc".as_slice())?;
+        let mut depot = FileDepot::new(rt.clone()?);
+        let mut into = [0u8; 3];
+        depot.read_at("open.bin", 0, &mut into)?;
+        fs::remove_file(&rt, "open.bin")?;
+        depot.size("open_none.bin")?;
+        depot.read_at("open.bin", 0, &mut into)?;
+        assert_eq!(rt; into, *b"abc");
+        assert_eq!(rt; depot.size("open.bin"), Ok(None));
+        let answer = depot.read_at("open.bin", 0, &mut into);
+        assert_eq!(rt; answer, Err(Trouble::Failed));
         Ok(())
     }
 

@@ -3,6 +3,7 @@
 
 #[cfg(test)]
 mod callers;
+mod drift_depot;
 mod file_depot;
 mod file_list;
 mod gates;
@@ -10,10 +11,12 @@ mod mem_depot;
 mod mem_sink;
 mod noting_depot;
 mod reading;
+mod regular_files;
 mod traits;
 mod write_sink;
 mod writing;
 
+pub use drift_depot::DriftDepot;
 pub use file_depot::FileDepot;
 pub use gates::OpenGate;
 pub use mem_depot::{Call, MemDepot};

@@ -134,7 +134,8 @@ impl MemDepot {
         self.fails.contains(&(call, number))
     }
 
-    fn count(&mut self, call: Call) -> u64
+    /// Counts a call, and answers its number.
+    pub(crate) fn count(&mut self, call: Call) -> u64
         ensures number { result ≡ counted (calls_of call self.old) }
         ensures counted { self.new ≡ with_call call self.old }
     {

@@ -4,7 +4,7 @@ use Rattle.gm_outside.specs.Frames.{DepotChange, SinkChange}
 use Rattle.gm_commands.specs.declared.failure.Failure.{Failure}
 use Rattle.gm_commands.specs.Commands.{Command, run, build}
 use Rattle.gm_commands.specs.Readings.{Reading, no_reading}
-use Rattle.gm_commands.specs.Endings.{Call, HasSucceeded, HasFailed}
+use Rattle.gm_commands.specs.Endings.{CommandCall, HasSucceeded, HasFailed}
 use Rattle.gm_tools.specs.EdgeReadings.{ReadsInPieces}
 use Rattle.gm_tools.specs.Builds.{build_reading, BuildPerforms, BuildLeaves, KeepsOthers}
 
@@ -29,7 +29,7 @@ abbrev pub ToolPerforms : Command → DepotChange → SinkChange → ℕ → Typ
 ToolPerforms (run command) depot out status = ⊥
 ToolPerforms (build command) depot out status = BuildPerforms command depot out status
 
-abbrev pub ToolSucceeds : Command → Call → Type 0
+abbrev pub ToolSucceeds : Command → CommandCall → Type 0
 ToolSucceeds command call = HasSucceeded tool_reading ToolPerforms command call
 
 -- what a tool leaves of the files and of standard output after this failure
@@ -42,7 +42,7 @@ abbrev pub ToolKeepsOthers : Command → DepotChange → Type 0
 ToolKeepsOthers (run command) depot = ⊥
 ToolKeepsOthers (build command) depot = KeepsOthers command.grid depot
 
-abbrev pub ToolFails : Command → Call → Type 0
+abbrev pub ToolFails : Command → CommandCall → Type 0
 ToolFails command call = HasFailed tool_reading ToolLeaves command call
 
 -- the statuses of the tools

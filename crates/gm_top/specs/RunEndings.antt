@@ -6,7 +6,7 @@ use Rattle.gm_commands.specs.declared.failure.Failure.{Failure}
 use Rattle.gm_commands.specs.declared.failure.Failure.TheVariants.{Refused, ReadFailed, WriteFailed, OutputFailed, OutOfMemory}
 use Rattle.gm_commands.specs.Commands.{Command, run, build, RunCommand}
 use Rattle.gm_commands.specs.Readings.{Reading}
-use Rattle.gm_commands.specs.Endings.{Call, Handles, WritesNothing, HasSucceeded, HasFailed, IsComplete}
+use Rattle.gm_commands.specs.Endings.{CommandCall, Handles, WritesNothing, HasSucceeded, HasFailed, IsComplete}
 use Rattle.gm_tools.specs.Tools.{tool_reading, ToolReads, ToolPerforms, ToolLeaves, ToolKeepsOthers}
 use Rattle.gm_top.specs.RunReadings.{run_reading}
 use Rattle.gm_top.specs.RunReports.{Reports, ReportsPartly}
@@ -29,7 +29,7 @@ abbrev pub Performs : Command → DepotChange → SinkChange → ℕ → Type 0
 Performs (run command) depot out status = Reports command depot out status
 Performs (build command) depot out status = ToolPerforms (build command) depot out status
 
-abbrev pub Succeeds : Command → Call → Type 0
+abbrev pub Succeeds : Command → CommandCall → Type 0
 Succeeds command call = HasSucceeded reading_of Performs command call
 
 -- what a command leaves of the files and of standard output after this failure
@@ -37,7 +37,7 @@ abbrev pub Leaves : Command → DepotChange → SinkChange → Failure → Type 
 Leaves (run command) depot out failure = RunLeaves command depot out failure
 Leaves (build command) depot out failure = ToolLeaves (build command) depot out failure
 
-abbrev pub Fails : Command → Call → Type 0
+abbrev pub Fails : Command → CommandCall → Type 0
 Fails command call = HasFailed reading_of Leaves command call
 
 -- what a command answers and leaves

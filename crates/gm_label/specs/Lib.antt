@@ -1,0 +1,9 @@
+pub mod Chunks
+pub mod ChunksRules
+pub mod Labels
+pub mod LabelsRules
+pub mod Catalogues
+pub mod CataloguesRules
+pub mod Counts
+pub mod Stored
+pub mod Examples
