@@ -1,9 +1,9 @@
 //! The commands, and the words that say them.
 
-ghost use Rattle.std.specs.Prelude.{◌≡◌, option_map, map, string_bytes};
+ghost use Rattle.std.specs.Prelude.{◌≡◌, ◌≤◌, IfSome, option_map, map, string_bytes};
 ghost use Rattle.gm_base.specs.declared.limits.TheConstants.{MAX_CHUNK_SIZE, MAX_VERTICES, MAX_PARTS};
 ghost use Rattle.std.specs.List.{list_all};
-ghost use Rattle.gm_commands.specs.Commands.{is_plain, number_between, run_from, build_from, command_of, said, word_of};
+ghost use Rattle.gm_commands.specs.Commands.{is_plain, number_between, run_from, build_from, info_from, HasChunkSize, command_of, said, word_of};
 
 use crate::failure::Operand;
 use gm_base::{MAX_CHUNK_SIZE, MAX_PARTS, MAX_VERTICES, Shape, Words, number};
@@ -24,11 +24,19 @@ pub struct BuildCommand<'a> {
     pub shape: Shape,
 }
 
+/// `info GRID CHUNK`, with a chunk size of 1 to 65,536 edges.
+#[derive(Clone, Copy)]
+pub struct InfoCommand<'a> {
+    pub grid: &'a str,
+    pub chunk: u32,
+}
+
 /// What the command line asks for.
 #[derive(Clone, Copy)]
 pub enum Command<'a> {
     Run(RunCommand<'a>),
     Build(BuildCommand<'a>),
+    Info(InfoCommand<'a>),
 }
 
 /// Whether a word is neither empty nor an option.
@@ -54,14 +62,16 @@ fn are_plain(words: &[String]) -> bool
 
 /// The number of a word, from `low` to `high`. `None` exactly where the word isn't 1 to 20 ASCII digits or its value is out of the range.
 fn number_between(low: u64, high: u64, word: &str) -> Option<u64>
-    ensures { result ≡ number_between low high word.now }
+    ensures value { result ≡ number_between low high word.now }
+    ensures range { IfSome result (λ number. (low ≤ number) × (number ≤ high)) }
 {
     let value = number(word.as_bytes(), high)?;
     if low <= value { Some(value) } else { None }
 }
 
 fn read_run<'a>(words: &'a [String]) -> Option<Command<'a>>
-    ensures { option_map said result ≡ run_from (map string_bytes words.entry.now) }
+    ensures value { option_map said result ≡ run_from (map string_bytes words.entry.now) }
+    ensures chunk { IfSome result (λ command. HasChunkSize (said command)) }
 {
     let [grid, jobs, workers, chunk] = words else {
         return None;
@@ -73,7 +83,8 @@ fn read_run<'a>(words: &'a [String]) -> Option<Command<'a>>
 }
 
 fn read_build<'a>(words: &'a [String]) -> Option<Command<'a>>
-    ensures { option_map said result ≡ build_from (map string_bytes words.entry.now) }
+    ensures value { option_map said result ≡ build_from (map string_bytes words.entry.now) }
+    ensures chunk { IfSome result (λ command. HasChunkSize (said command)) }
 {
     let [edges, grid, n, parts] = words else {
         return None;
@@ -88,10 +99,23 @@ fn read_build<'a>(words: &'a [String]) -> Option<Command<'a>>
     Some(Command::Build(BuildCommand { edges, grid, shape }))
 }
 
+fn read_info<'a>(words: &'a [String]) -> Option<Command<'a>>
+    ensures value { option_map said result ≡ info_from (map string_bytes words.entry.now) }
+    ensures chunk { IfSome result (λ command. HasChunkSize (said command)) }
+{
+    let [grid, chunk] = words else {
+        return None;
+    };
+    let chunk = number_between(1, u64::from(MAX_CHUNK_SIZE), chunk.as_str())? as u32;
+    let grid = grid.as_str();
+    Some(Command::Info(InfoCommand { grid, chunk }))
+}
+
 /// The command that the words say. `None` exactly where they say none.
 #[tactic(auto, unfolding(crate::specs::Commands::command_of))]
 pub fn read_command<'a>(words: &'a Words) -> Option<Command<'a>>
-    ensures { option_map said result ≡ command_of words.entry.now }
+    ensures value { option_map said result ≡ command_of words.entry.now }
+    ensures chunk { IfSome result (λ command. HasChunkSize (said command)) }
 {
     let words = words.as_slice();
     if !are_plain(words) {
@@ -101,6 +125,7 @@ pub fn read_command<'a>(words: &'a Words) -> Option<Command<'a>>
     match name.as_str() {
         "run" => read_run(operands),
         "build" => read_build(operands),
+        "info" => read_info(operands),
         _ => None,
     }
 }
@@ -115,6 +140,7 @@ impl<'a> Command<'a> {
             (Command::Run(run), Operand::Jobs) => run.jobs,
             (Command::Build(build), Operand::Edges) => build.edges,
             (Command::Build(build), Operand::Grid) => build.grid,
+            (Command::Info(info), Operand::Grid) => info.grid,
             _ => "",
         }
     }

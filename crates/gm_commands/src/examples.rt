@@ -2,7 +2,7 @@
 #![tactic(auto, unfolding(crate::specs::Commands::command_of, crate::specs::Failures::text_of))]
 
 ghost use Rattle.std.specs.Prelude.{◌≡◌, [], ◌∷◌, codes, Some, None};
-ghost use Rattle.gm_commands.specs.Commands.{command_of, run, build};
+ghost use Rattle.gm_commands.specs.Commands.{command_of, run, build, info};
 ghost use Rattle.gm_commands.specs.StandardError.{error_line};
 
 use crate::{Failure, Operand, Refusal};
@@ -35,6 +35,15 @@ pub fn words_of_a_build()
     ensures empty_word { command_of (codes "build" ∷ codes "e" ∷ [] ∷ codes "4" ∷ codes "2" ∷ []) ≡ None }
 {}
 
+/// The words of an info, and words that are none.
+pub fn words_of_an_info()
+    ensures info { command_of (codes "info" ∷ codes "a" ∷ codes "65536" ∷ []) ≡ Some (info (record { grid = codes "a"; chunk = 65536 })) }
+    ensures zeros { command_of (codes "info" ∷ codes "a" ∷ codes "0001" ∷ []) ≡ Some (info (record { grid = codes "a"; chunk = 1 })) }
+    ensures none { command_of (codes "info" ∷ codes "a" ∷ codes "0" ∷ []) ≡ None }
+    ensures more { command_of (codes "info" ∷ codes "a" ∷ codes "65537" ∷ []) ≡ None }
+    ensures long { command_of (codes "info" ∷ codes "a" ∷ codes "1" ∷ codes "1" ∷ []) ≡ None }
+{}
+
 /// What lines on standard error say.
 pub fn error_lines()
     ensures bad_line { error_line (build (record { edges = codes "e.txt"; grid = codes "a"; shape = record { n = 4; parts = 2 } }))
@@ -45,6 +54,8 @@ pub fn error_lines()
         (Failure.Refused (Refusal.Grid (GridError.BadSize 95 96))) ≡ codes "graphm: a.grid: size 95, expected 96\n" }
     ensures shape { error_line (run (record { grid = codes "a.grid"; jobs = codes "j.txt"; chunk = 1 }))
         (Failure.Refused (Refusal.Grid (GridError.BadShape 0 2))) ≡ codes "graphm: a.grid: bad shape n 0 parts 2\n" }
+    ensures chunks { error_line (info (record { grid = codes "a.grid"; chunk = 1 }))
+        (Failure.Refused (Refusal.Grid (GridError.TooManyChunks 1048577))) ≡ codes "graphm: a.grid: too many chunks 1048577\n" }
     ensures output { error_line (run (record { grid = codes "a.grid"; jobs = codes "j.txt"; chunk = 1 })) Failure.OutputFailed
         ≡ codes "graphm: output failed\n" }
 {}

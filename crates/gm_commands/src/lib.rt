@@ -8,7 +8,7 @@ mod failure_text;
 mod files;
 mod standard_error;
 
-pub use command::{BuildCommand, Command, RunCommand, read_command};
+pub use command::{BuildCommand, Command, InfoCommand, RunCommand, read_command};
 pub use failure::{Failure, Operand, Refusal};
 pub use files::{FileText, file_size, read_file};
 pub use standard_error::{conclude, say_out_of_memory, say_usage};

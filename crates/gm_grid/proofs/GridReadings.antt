@@ -316,6 +316,13 @@ sizes-fits bytes a =
       edges_length = length-map (first_chunks 12 (length body / 12) body) edge_of_bytes ∙ length-first_chunks 12 (length body / 12) body ∙ body_many;
     }
 
+pub sizes-passes : (bytes : List ℕ) → Passes (length bytes) (take 16 bytes) (counts_in bytes)
+    → (sum (counts_in bytes) ≡ length (edges_in bytes)) × (length bytes ≡ index_end (shape_in bytes) + 12 * length (edges_in bytes))
+sizes-passes bytes passes =
+    let a = fits-passes bytes passes in
+    let s = sizes-fits bytes a in
+    (sym s.edges_length, omega (arith, a.size, s.counts_length, s.edges_length))
+
 pub edges_of_grid-blocks_in : (bytes : List ℕ) → Passes (length bytes) (take 16 bytes) (counts_in bytes) → edges_of_grid (blocks_in bytes) ≡ edges_in bytes
 edges_of_grid-blocks_in bytes passes =
     edges_of_grid-blocks_of (counts_in bytes) (edges_in bytes) (sym (sizes-fits bytes (fits-passes bytes passes)).edges_length)

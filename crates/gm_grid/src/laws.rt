@@ -89,6 +89,9 @@ pub fn grid_by_parts()
         → IsGrid bytes (shape_in bytes).n (shape_in bytes).parts (blocks_in bytes) }
     ensures edges { (bytes : List ℕ) → refusal_by_head (length bytes) (take 16 bytes) ≡ None
         → refusal_by_index (length bytes) (counts_in bytes) ≡ None → edges_of_grid (blocks_in bytes) ≡ edges_in bytes }
+    ensures sizes { (bytes : List ℕ) → refusal_by_head (length bytes) (take 16 bytes) ≡ None
+        → refusal_by_index (length bytes) (counts_in bytes) ≡ None
+        → ((sum (counts_in bytes) ≡ length (edges_in bytes)) × (length bytes ≡ index_end (shape_in bytes) + 12 * length (edges_in bytes))) }
     ensures bad_edge { (chunk_size place : ℕ) (bytes : List ℕ) → refusal_by_head (length bytes) (take 16 bytes) ≡ None
         → refusal_by_index (length bytes) (counts_in bytes) ≡ None → refusal_by_chunks chunk_size (counts_in bytes) ≡ None
         → position (is_misplaced (shape_in bytes)) (placed_edges 0 (blocks_in bytes)) ≡ Some place

@@ -1,5 +1,5 @@
 -- A block's chunks stand side by side.
-use Rattle.std.proofs.Common.{◌≡◌, ℕ, zero, suc, ◌+◌, ◌-◌, ◌*◌, ◌<◌, ◌≤◌, true, false, List, [], ◌∷◌, ◌++◌, length, get_or, length-append, inl, inr, sym, ap, ◌∙◌, refl, subst, arith, drop, sum, append_assoc, append-nil, drop-cons, drop_of_length-le, add-one}
+use Rattle.std.proofs.Common.{◌≡◌, ℕ, zero, suc, ◌+◌, ◌-◌, ◌*◌, ◌<◌, ◌≤◌, true, false, List, [], ◌∷◌, ◌++◌, length, get_or, length-append, inl, inr, sym, ap, ◌∙◌, refl, subst, arith, drop, sum, append_assoc, drop-cons, add-one}
 use Rattle.std.specs.List.{All}
 use Rattle.std.proofs.lemmas.List.Sums.{sum_by-cons, sum_by-drop_more}
 use Rattle.std.proofs.lemmas.Bool.{cases_lt}
@@ -32,25 +32,41 @@ not_last_at size block first rest zero c h = absurd (omega arith)
 not_last_at size block first rest (suc more) zero h = refl
 not_last_at size block first rest (suc more) (suc c) h = not_last_at size block (first + size) rest more c (omega arith)
 
+-- the first block's chunks stand in front ..
+at_front : (size block first count : ℕ) (counts : List ℕ) (c : ℕ) → c ≤ before_last size count
+    → get_or (chunks_from size block first (count ∷ counts)) c no_place ≡ get_or (chunks_of_block size block first count) c no_place
+at_front size block first count counts c low =
+    let long = length-cut_rest size block first (count - size * before_last size count) (before_last size count) in
+    get_or_append_left (chunks_of_block size block first count) (chunks_from size (block + 1) (first + count) counts) no_place c (omega arith)
+
+-- .. and those of the other blocks behind them
+at_back : (size block first count : ℕ) (counts : List ℕ) (c : ℕ) → before_last size count + 1 ≤ c
+    → get_or (chunks_from size block first (count ∷ counts)) c no_place
+    ≡ get_or (chunks_from size (block + 1) (first + count) counts) (c - (before_last size count + 1)) no_place
+at_back size block first count counts c high =
+    get_or-append_right (chunks_of_block size block first count) (chunks_from size (block + 1) (first + count) counts) (before_last size count + 1) c no_place
+    (length-cut_rest size block first (count - size * before_last size count) (before_last size count)) high
+
+length-more : (size block first count : ℕ) (counts : List ℕ)
+    → length (chunks_from size block first (count ∷ counts)) ≡ before_last size count + 1 + length (chunks_from size (block + 1) (first + count) counts)
+length-more size block first count counts =
+    let long = length-cut_rest size block first (count - size * before_last size count) (before_last size count) in
+    length-append (chunks_of_block size block first count) (chunks_from size (block + 1) (first + count) counts) ∙ omega arith
+
 -- later blocks have greater numbers
 later_blocks : (size block first : ℕ) (counts : List ℕ) (c : ℕ) → c < length (chunks_from size block first counts)
     → block ≤ (get_or (chunks_from size block first counts) c no_place).block
 later_blocks size block first [] c within = absurd (omega arith)
 later_blocks size block first (count ∷ counts) c within =
     let more = before_last size count in
-    let rest = count - size * more in
-    let here = cut_rest size block first rest more in
-    let others = chunks_from size (block + 1) (first + count) counts in
-    let long = length-cut_rest size block first rest more in
-    let all = length-append here others in
-    elim (cases_lt c (more + 1)) as (λ _. block ≤ (get_or (here ++ others) c no_place).block) [
+    let all = length-more size block first count counts in
+    elim (cases_lt c (more + 1)) as (λ _. block ≤ (get_or (chunks_from size block first (count ∷ counts)) c no_place).block) [
       | inl front ↦
-          let is : (get_or (here ++ others) c no_place).block ≡ block =
-          ap (λ (p : Place). p.block) (get_or_append_left here others no_place c (omega arith)) ∙ block_at size block first rest more c (omega arith) in
+          let is = ap (λ (p : Place). p.block) (at_front size block first count counts c (omega arith)) in
+          let here = block_at size block first (count - size * more) more c (omega arith) in
           omega arith
       | inr back ↦
-          let is : (get_or (here ++ others) c no_place).block ≡ (get_or others (c - (more + 1)) no_place).block =
-          ap (λ (p : Place). p.block) (get_or-append_right here others (more + 1) c no_place (omega arith) back) in
+          let is = ap (λ (p : Place). p.block) (at_back size block first count counts c back) in
           let above = later_blocks size (block + 1) (first + count) counts (c - (more + 1)) (omega arith) in
           omega arith
     ]
@@ -85,19 +101,15 @@ first_range : (size block first count : ℕ) (counts : List ℕ)
 first_range size block first count counts =
     let more = before_last size count in
     let rest = count - size * more in
-    let here = cut_rest size block first rest more in
-    let others = chunks_from size (block + 1) (first + count) counts in
-    let long = length-cut_rest size block first rest more in
-    let all = length-append here others in
-    let at : (c : ℕ) → c ≤ more → get_or (here ++ others) c no_place ≡ get_or here c no_place = λ c low. get_or_append_left here others no_place c (omega arith) in
+    let all = length-more size block first count counts in
+    let at = at_front size block first count counts in
     record {
       some = omega arith;
       within = omega arith;
       inside = λ c low high. ap (λ (p : Place). p.block) (at c high) ∙ block_at size block first rest more c high;
       before = λ c less. absurd (omega arith);
       behind = λ c back within.
-          let moved : (get_or (here ++ others) c no_place).block ≡ (get_or others (c - (more + 1)) no_place).block =
-          ap (λ (p : Place). p.block) (get_or-append_right here others (more + 1) c no_place (omega arith) (omega arith)) in
+          let is = ap (λ (p : Place). p.block) (at_back size block first count counts c (omega arith)) in
           let above = later_blocks size (block + 1) (first + count) counts (c - (more + 1)) (omega arith) in
           omega arith;
       the_last = ap (λ (p : Place). p.is_last) (at more (omega arith)) ∙ last_at size block first rest more;
@@ -236,18 +248,3 @@ next_firsts size block at len counts fs gs all ps qs within is counted pushed be
 pub next_edges : (block at : ℕ) (counts : List ℕ) (all : ℕ) → block < length counts → at + sum (drop block counts) ≡ all
     → at + get_or counts block 0 + sum (drop (block + 1) counts) ≡ all
 next_edges block at counts all within before = let one = sum_by-drop_more (λ (x : ℕ). x) counts block 0 within in omega arith
-
-pub end_places : (size block at : ℕ) (counts : List ℕ) (ps all : List Place) → length counts ≤ block → ps ++ chunks_from size block at (drop block counts) ≡ all → ps ≡ all
-end_places size block at counts ps all past before =
-    sym (append-nil ps) ∙ ap (λ (cs : List ℕ). ps ++ chunks_from size block at cs) (sym (drop_of_length-le counts past)) ∙ before
-
-pub end_firsts : (size block len : ℕ) (counts fs gs all : List ℕ) (ps : List Place) → length counts ≤ block → len ≡ length ps → gs ≡ fs ++ len ∷ []
-    → fs ++ firsts_from size (length ps) (drop block counts) ≡ all → gs ≡ all
-end_firsts size block len counts fs gs all ps past counted pushed before =
-    pushed ∙ ap (λ n. fs ++ n ∷ []) counted
-    ∙ ap (λ (cs : List ℕ). fs ++ firsts_from size (length ps) cs) (sym (drop_of_length-le counts past)) ∙ before
-
-pub end_edges : (block at : ℕ) (counts : List ℕ) (all : ℕ) → length counts ≤ block → at + sum (drop block counts) ≡ all → at ≡ all
-end_edges block at counts all past before =
-    let none : sum (drop block counts) ≡ 0 = ap (λ (cs : List ℕ). sum cs) (drop_of_length-le counts past) in
-    omega arith

@@ -54,24 +54,38 @@ new_stretch : (pairs label : List (ℕ × ℕ)) (start count : ℕ) → start �
 new_stretch pairs label start count at long =
     ap (take count) (drop_at pairs label start (sym at)) ∙ take_all count label (omega arith)
 
+-- a label that was added to the pairs, and where it stands among them
+pub record IsAdded (pairs label pairs_now : List (ℕ × ℕ)) (start count : ℕ) : Type 0 where
+  pub joined : pairs_now ≡ pairs ++ label
+  pub at : start ≡ length pairs
+  pub long : count ≡ length label
+
+-- first room was taken
+pub added_behind : (pairs roomy label pairs_now : List (ℕ × ℕ)) (start end : ℕ) → start ≡ length pairs → roomy ≡ pairs → pairs_now ≡ roomy ++ label → end ≡ length pairs_now
+    → IsAdded pairs label pairs_now start (end - start)
+added_behind pairs roomy label pairs_now start end at same is all =
+    let joined : pairs_now ≡ pairs ++ label = is ∙ ap (λ (ps : List (ℕ × ℕ)). ps ++ label) same in
+    let both : length pairs_now ≡ length pairs + length label = ap length joined ∙ length-append pairs label in
+    record { joined = joined; at = at; long = omega arith }
+
 -- the labels with a new one behind the others
-pub new_lists : (pairs label pairs_now : List (ℕ × ℕ)) (spans : List Span) (chunk start count : ℕ) → All (IsInside pairs) spans
-    → pairs_now ≡ pairs ++ label → start ≡ length pairs → count ≡ length label
+pub new_lists : (pairs label pairs_now : List (ℕ × ℕ)) (spans : List Span) (chunk start count : ℕ) → All (IsInside pairs) spans → IsAdded pairs label pairs_now start count
     → map (stretch pairs_now) (set spans chunk (record { start = start; count = count })) ≡ set (map (stretch pairs) spans) chunk label
-new_lists pairs label pairs_now spans chunk start count inside is at long =
+new_lists pairs label pairs_now spans chunk start count inside added =
     let span : Span = record { start = start; count = count } in
-    ap (λ (ps : List (ℕ × ℕ)). map (stretch ps) (set spans chunk span)) is
+    ap (λ (ps : List (ℕ × ℕ)). map (stretch ps) (set spans chunk span)) added.joined
     ∙ map-set (stretch (pairs ++ label)) spans chunk span
     ∙ ap (λ (ls : List (List (ℕ × ℕ))). set ls chunk (stretch (pairs ++ label) span)) (same_lists pairs label spans inside)
-    ∙ ap (set (map (stretch pairs) spans) chunk) (new_stretch pairs label start count at long)
+    ∙ ap (set (map (stretch pairs) spans) chunk) (new_stretch pairs label start count added.at added.long)
 
 pub new_stretches : (pairs label pairs_now : List (ℕ × ℕ)) (spans : List Span) (chunk start count left edges : ℕ) → AreStretches pairs spans left
     → chunk < length (map (stretch pairs) spans) → get_or (map (stretch pairs) spans) chunk [] ≡ [] → length label ≤ edges → edges ≤ left
-    → pairs_now ≡ pairs ++ label → start ≡ length pairs → count ≡ length label
-    → AreStretches pairs_now (set spans chunk (record { start = start; count = count })) (left - edges)
-new_stretches pairs label pairs_now spans chunk start count left edges kept within fresh few room is at long =
+    → IsAdded pairs label pairs_now start count → AreStretches pairs_now (set spans chunk (record { start = start; count = count })) (left - edges)
+new_stretches pairs label pairs_now spans chunk start count left edges kept within fresh few room added =
     let span : Span = record { start = start; count = count } in
-    let both : length pairs_now ≡ length pairs + length label = ap length is ∙ length-append pairs label in
+    let at = added.at in
+    let long = added.long in
+    let both : length pairs_now ≡ length pairs + length label = ap length added.joined ∙ length-append pairs label in
     let below : chunk < length spans = let same = length-map spans (stretch pairs) in omega arith in
     let old = get_or spans chunk no_span in
     let old_list : length (stretch pairs old) ≡ 0 = ap length (sym (get_or-map (stretch pairs) spans chunk no_span [] below) ∙ fresh) in

@@ -8,10 +8,9 @@ ghost use Rattle.gm_label.specs.Labels.{sources_of, IsLabel};
 ghost use Rattle.gm_label.specs.Catalogues.{place_at, label_at, sources_at, unlabelled, with_label, FitsChunk, IsFirstOf, IsLastOf, first_source_of, end_source_of, IsSourceIn, AreInRows};
 
 use crate::chunk::{Chunk, Place};
-use crate::label::{Label, lists};
+use crate::label::{ChunkLabel, lists};
 use crate::labels::Labels;
-use crate::plan::{PlanError, chunk_count, push_block};
-use crate::source_counts::SourceCounts;
+use crate::plan::{PlanError, chunk_count, cut_blocks};
 use gm_base::{MAX_CHUNKS, Memory, Shape};
 use std::alloc::Global;
 use std::marker::Model;
@@ -57,36 +56,9 @@ impl Catalogue {
         if chunks > u64::from(MAX_CHUNKS) {
             return Err(PlanError::TooManyChunks { chunks });
         }
-        let catalogue = Catalogue::cut(alloc, shape, counts, chunk_size, chunks as usize)?;
-        Ok(catalogue)
-    }
-
-    /// The same where there are so many, which are few enough.
-    fn cut(
-        alloc: Global,
-        shape: Shape,
-        counts: &[u64],
-        chunk_size: u32,
-        chunks: usize,
-    ) -> Result<Catalogue, Memory>
-        requires blocks { length counts.now ≡ shape.parts * shape.parts }
-        requires few { sum counts.now ≤ MAX_EDGES }
-        requires some { 1 ≤ chunk_size }
-        requires short { chunk_size ≤ MAX_CHUNK_SIZE }
-        requires chunks { chunks ≡ length (chunks_of chunk_size counts.now) }
-        requires most { chunks ≤ MAX_CHUNKS }
-        ensures { IfOk result (λ cat. cat ≡ unlabelled shape (chunks_of chunk_size counts.now)) }
-    {
-        let mut places = Vec::with_capacity(alloc, chunks)?;
-        let mut firsts = Vec::with_capacity(alloc, counts.len() + 1)?;
-        let mut at = 0u32;
-        for (block, &count) in counts.iter().enumerate() {
-            firsts.push(places.len() as u32)?;
-            push_block(&mut places, chunk_size, block as u32, at, count as u32)?;
-            at += count as u32;
-        }
-        firsts.push(places.len() as u32)?;
-        let labels = Labels::empty(alloc, places.len(), at)?;
+        let (places, firsts) = cut_blocks(alloc, counts, chunk_size, chunks as usize)?;
+        let edges = counts.iter().sum::<u64>() as u32;
+        let labels = Labels::empty(alloc, places.len(), edges)?;
         Ok(Catalogue {
             shape,
             places,
@@ -96,29 +68,16 @@ impl Catalogue {
     }
 
     /// Gives a chunk that has none its label. A refusal leaves the catalogue as it was.
-    pub fn set_label(&mut self, chunk: u32, label: &Label) -> Result<(), Memory>
+    pub fn set_label<L: ChunkLabel>(&mut self, chunk: u32, label: &L) -> Result<(), Memory>
         requires within { chunk < length self.old.places }
         requires fresh { label_at self.old chunk ≡ [] }
-        requires fits { FitsChunk self.old chunk label.now }
-        ensures ok { OnOk result (self.new ≡ with_label self.old chunk label.now) }
+        requires fits { FitsChunk self.old chunk (L.pairs label.now) }
+        ensures ok { OnOk result (self.new ≡ with_label self.old chunk (L.pairs label.now)) }
         ensures err { OnErr result (self.new ≡ self.old) }
     {
         let at = chunk as usize;
         let edges = self.places[at].count;
-        self.labels.set(at, label.as_slice(), edges)
-    }
-
-    /// The same with the label that counts tell. No list is made of it.
-    pub fn set_counted(&mut self, chunk: u32, counts: &SourceCounts) -> Result<(), Memory>
-        requires within { chunk < length self.old.places }
-        requires fresh { label_at self.old chunk ≡ [] }
-        requires fits { FitsChunk self.old chunk counts.now }
-        ensures ok { OnOk result (self.new ≡ with_label self.old chunk counts.now) }
-        ensures err { OnErr result (self.new ≡ self.old) }
-    {
-        let at = chunk as usize;
-        let edges = self.places[at].count;
-        self.labels.set_counted(at, counts, edges)
+        self.labels.set(at, label, edges)
     }
 
     /// The number of vertices and of ranges.

@@ -1,6 +1,6 @@
 //! Labels of chunks.
 
-ghost use Rattle.std.specs.Prelude.{◌≡◌, ◌==◌, ◌+◌, ◌<◌, ◌≤◌, ◌^◌, ◌++◌, ◌≢◌, ℕ, [], length, slice_index, map, take, IfOk, OnOk};
+ghost use Rattle.std.specs.Prelude.{◌≡◌, ◌==◌, ◌+◌, ◌<◌, ◌≤◌, ◌^◌, ◌++◌, ◌≢◌, ℕ, List, [], length, slice_index, map, take, IfOk, OnOk, OnErr};
 ghost use Rattle.std.specs.List.{list_any};
 ghost use Rattle.std.specs.List.Sorted.{IsNonDecreasing};
 ghost use Rattle.gm_base.specs.declared.limits.TheConstants.{MAX_EDGES};
@@ -9,6 +9,17 @@ ghost use Rattle.gm_label.specs.Labels.{label_of, label_of_sources, sources_of, 
 use gm_base::{Edge, Memory};
 use std::alloc::Global;
 use std::marker::Model;
+
+/// A label that a catalogue can take over into its own list of pairs.
+pub trait ChunkLabel {
+    /// The label's pairs.
+    ghost pairs: { Self → List (ℕ × ℕ) };
+
+    /// Adds the pairs at the end of the list. A refusal leaves it as it was.
+    fn append_to(&self, list: &mut Vec<(u32, u32)>) -> Result<(), Memory>
+        ensures ok { OnOk result (list.new.items ≡ list.old.items ++ pairs self.now) }
+        ensures err { OnErr result (list.new.items ≡ list.old.items) };
+}
 
 /// The label of a chunk: its sources, ascending, each with the number of its edges. Contracts see the list of the pairs.
 #[derive(Drop)]
@@ -69,6 +80,15 @@ impl Label {
         ensures { result ≡ (length self.now == 0) }
     {
         self.pairs.is_empty()
+    }
+}
+
+impl ChunkLabel for Label {
+    ghost pairs = { λ label. label };
+
+    fn append_to(&self, list: &mut Vec<(u32, u32)>) -> Result<(), Memory> {
+        list.extend_from_slice(self.pairs.as_slice())?;
+        Ok(())
     }
 }
 

@@ -4,7 +4,7 @@ ghost use Rattle.std.specs.Prelude.{◌≡◌, ◌+◌, ◌-◌, ◌<◌, ◌≤
 ghost use Rattle.gm_base.specs.declared.limits.TheConstants.{MAX_EDGES};
 ghost use Rattle.gm_label.specs.Stored.{LabelTable};
 
-use crate::SourceCounts;
+use crate::label::ChunkLabel;
 use gm_base::Memory;
 use std::alloc::Global;
 use std::marker::Model;
@@ -83,42 +83,17 @@ impl Labels {
     }
 
     /// Gives a chunk of so many edges its label. A refusal changes nothing.
-    pub fn set(&mut self, chunk: usize, label: &[(u32, u32)], edges: u32) -> Result<(), Memory>
+    pub fn set<L: ChunkLabel>(&mut self, chunk: usize, label: &L, edges: u32) -> Result<(), Memory>
         requires within { chunk < length self.old.lists }
         requires fresh { slice_index_or self.old.lists chunk [] ≡ [] }
-        requires few { length label.now ≤ edges }
+        requires few { length (L.pairs label.now) ≤ edges }
         requires left { edges ≤ self.old.left }
-        ensures ok { OnOk result (self.new ≡ record { lists = slice_set self.old.lists chunk label.now; left = self.old.left - edges }) }
+        ensures ok { OnOk result (self.new ≡ record { lists = slice_set self.old.lists chunk (L.pairs label.now); left = self.old.left - edges }) }
         ensures err { OnErr result (self.new ≡ self.old) }
     {
         let start = self.pairs.len();
         make_room(&mut self.pairs, edges, self.left)?;
-        self.pairs.extend_from_slice(label)?;
-        self.spans[chunk] = Span {
-            start: start as u32,
-            count: label.len() as u32,
-        };
-        self.left -= edges;
-        Ok(())
-    }
-
-    /// The same with the label that counts tell.
-    pub fn set_counted(
-        &mut self,
-        chunk: usize,
-        counts: &SourceCounts,
-        edges: u32,
-    ) -> Result<(), Memory>
-        requires within { chunk < length self.old.lists }
-        requires fresh { slice_index_or self.old.lists chunk [] ≡ [] }
-        requires few { length counts.now ≤ edges }
-        requires left { edges ≤ self.old.left }
-        ensures ok { OnOk result (self.new ≡ record { lists = slice_set self.old.lists chunk counts.now; left = self.old.left - edges }) }
-        ensures err { OnErr result (self.new ≡ self.old) }
-    {
-        let start = self.pairs.len();
-        make_room(&mut self.pairs, edges, self.left)?;
-        counts.append_to(&mut self.pairs)?;
+        label.append_to(&mut self.pairs)?;
         self.spans[chunk] = Span {
             start: start as u32,
             count: (self.pairs.len() - start) as u32,

@@ -1,4 +1,5 @@
 //! Laws of labels and chunks.
+#![tactic(auto, using(crate::specs::CataloguesRules::labelling))]
 
 ghost use Rattle.std.specs.Prelude.{◌≡◌, ◌==◌, ◌≤◌, ◌+◌, ◌*◌, ◌<◌, ℕ, List, [], map, max, length, true, false, All, take, drop, sum, sum_by, flat_map, slice_index_or};
 ghost use Rattle.std.specs.Int.{div_ceil};

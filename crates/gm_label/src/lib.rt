@@ -14,6 +14,6 @@ mod tests;
 
 pub use catalogue::Catalogue;
 pub use chunk::{Chunk, Overlay, Overlays, Raw};
-pub use label::Label;
+pub use label::{ChunkLabel, Label};
 pub use plan::PlanError;
 pub use source_counts::SourceCounts;

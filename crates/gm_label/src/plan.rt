@@ -1,13 +1,15 @@
 //! Cutting a grid into chunks.
 
 ghost use Rattle.std.specs.Prelude.{◌≡◌, ◌+◌, ◌-◌, ◌/◌, ◌*◌, ◌<◌, ◌≤◌, ◌++◌, length, sum, IfOk, OnOk};
-ghost use Rattle.gm_base.specs.declared.limits.TheConstants.{MAX_EDGES, MAX_PARTS, MAX_CHUNK_SIZE};
+ghost use Rattle.gm_base.specs.declared.limits.TheConstants.{MAX_EDGES, MAX_PARTS, MAX_CHUNKS};
 ghost use Rattle.gm_base.specs.ChunkCounts.{chunk_count};
-ghost use Rattle.gm_label.specs.Chunks.{chunks_of_block};
+ghost use Rattle.gm_label.specs.Chunks.{chunks_of_block, chunks_of};
+ghost use Rattle.gm_label.specs.Stored.{firsts_from};
 ghost use Rattle.gm_label.specs.declared.plan.PlanError.TheVariants as PlanErrors;
 
 use crate::chunk::Place;
 use gm_base::Memory;
+use std::alloc::Global;
 
 /// Why a grid has no catalogue.
 #[derive(Clone, Copy, Debug, PartialEq, Eq)]
@@ -71,4 +73,32 @@ pub(crate) fn push_block(
         is_last: true,
     })?;
     Ok(())
+}
+
+/// Cuts blocks of so many edges into chunks, of which there are so many, and tells where each block's chunks begin and where all
+/// end.
+pub(crate) fn cut_blocks(
+    alloc: Global,
+    counts: &[u64],
+    chunk_size: u32,
+    chunks: usize,
+) -> Result<(Vec<Place>, Vec<u32>), Memory>
+    requires blocks { length counts.now ≤ MAX_PARTS * MAX_PARTS }
+    requires few { sum counts.now ≤ MAX_EDGES }
+    requires size { 1 ≤ chunk_size }
+    requires chunks { chunks ≡ length (chunks_of chunk_size counts.now) }
+    requires most { chunks ≤ MAX_CHUNKS }
+    ensures places { IfOk result (λ cut. cut.0.items ≡ chunks_of chunk_size counts.now) }
+    ensures firsts { IfOk result (λ cut. cut.1.items ≡ firsts_from chunk_size 0 counts.now) }
+{
+    let mut places = Vec::with_capacity(alloc, chunks)?;
+    let mut firsts = Vec::with_capacity(alloc, counts.len() + 1)?;
+    let mut at = 0u32;
+    for (block, &count) in counts.iter().enumerate() {
+        firsts.push(places.len() as u32)?;
+        push_block(&mut places, chunk_size, block as u32, at, count as u32)?;
+        at += count as u32;
+    }
+    firsts.push(places.len() as u32)?;
+    Ok((places, firsts))
 }

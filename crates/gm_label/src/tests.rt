@@ -66,7 +66,7 @@ fn a_catalogue_is_labelled_by_counts(rt: HostRuntime) -> Result<(), Fail> {
     let mut catalogue = Catalogue::plan(rt.alloc(), shape, &[3], 3)?;
     let mut counts = SourceCounts::new(rt.alloc());
     counts.count(0, 3, &EDGES)?;
-    catalogue.set_counted(0, &counts)?;
+    catalogue.set_label(0, &counts)?;
     assert_eq!(rt; catalogue.label(0), [(0, 2), (2, 1)].as_slice());
     Ok(())
 }

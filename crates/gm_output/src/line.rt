@@ -8,7 +8,7 @@ use itoa::Buffer;
 use std::marker::Model;
 
 /// How many bytes a line has at most.
-pub const MAX_LINE_BYTES: usize = 128;
+pub const MAX_LINE_BYTES: usize = 160;
 
 /// The bytes of a line: a text of at most [`MAX_LINE_BYTES`] bytes.
 #[derive(Drop)]

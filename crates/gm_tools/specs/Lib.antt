@@ -1,3 +1,4 @@
 pub mod EdgeReadings
 pub mod Builds
+pub mod Infos
 pub mod Tools

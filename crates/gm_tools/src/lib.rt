@@ -4,10 +4,12 @@
 mod build_tool;
 mod edge_reading;
 pub mod examples;
+mod info_tool;
 #[cfg(test)]
 mod tests;
 mod tool_call;
 
 pub use build_tool::run_build;
 pub use edge_reading::TEXT_PIECE;
+pub use info_tool::run_info;
 pub use tool_call::tool;

@@ -237,3 +237,96 @@ fn many_edges_are_built(rt: HostRuntime) -> Result<(), Fail> {
     }
     Ok(())
 }
+
+/// What an info of these bytes comes to, where these reads fail.
+fn info(rt: &HostRuntime, chunk: &str, grid: &[u8], fails: &[(Call, u64)]) -> Result<End, Fail> {
+    let mut words = Words::new(rt.alloc());
+    for word in ["info", "a.grid", chunk] {
+        words.push(word)?;
+    }
+    let mut depot = MemDepot::new(rt.alloc(), fails.to_vec(rt.alloc())?);
+    depot.put("a.grid", grid)?;
+    let mut out = MemSink::new(rt.alloc(), Vec::new(rt.alloc()));
+    let mut err = MemSink::new(rt.alloc(), Vec::new(rt.alloc()));
+    let status = tool(rt.alloc(), &words, &mut depot, &mut out, &mut err);
+    Ok(End {
+        status,
+        depot,
+        out,
+        err,
+    })
+}
+
+/// A chunk size, and the output for it, over `GRID`.
+const INFOS: [(&str, &[u8]); 3] = [
+    ("1", b"vertices 4\nparts 2\nedges 4\nchunks 5\nlabels 4\n"),
+    ("2", b"vertices 4\nparts 2\nedges 4\nchunks 4\nlabels 4\n"),
+    (
+        "65536",
+        b"vertices 4\nparts 2\nedges 4\nchunks 4\nlabels 4\n",
+    ),
+];
+
+#[test]
+fn grids_are_counted(rt: HostRuntime) -> Result<(), Fail> {
+    for (chunk, output) in INFOS {
+        let end = info(&rt, chunk, GRID, &[])?;
+        assert_eq!(rt; end.status, 0, "{chunk}");
+        assert_eq!(rt; end.out.written(), output, "{chunk}");
+        assert_eq!(rt; end.err.written(), b"".as_slice(), "{chunk}");
+        let reads = if chunk == "1" { 6 } else { 5 };
+        assert_eq!(rt; end.depot.reads(), reads, "{chunk}");
+    }
+    Ok(())
+}
+
+/// The grid with its second edge moved to another block.
+fn grid_with_bad_edge(rt: &HostRuntime) -> Result<Vec<u8>, Fail> {
+    let mut grid = GRID.to_vec(rt.alloc())?;
+    grid[60] = 3;
+    Ok(grid)
+}
+
+const GRID_FAILED: &[u8] = b"graphm: a.grid: read failed\n";
+
+/// Each read of an info fails in turn: of a good grid, of one cut by one byte, and of one with a bad edge.
+#[test]
+fn each_read_of_an_info_fails_in_turn(rt: HostRuntime) -> Result<(), Fail> {
+    let bad = grid_with_bad_edge(&rt)?;
+    let cut = b"graphm: a.grid: size 95, expected 96\n".as_slice();
+    let stray = b"graphm: a.grid: bad edge 1\n".as_slice();
+    let table: [(&[u8], u64, u8, &[u8]); 3] = [
+        (GRID, 6, 0, b""),
+        (&GRID[..95], 2, 4, cut),
+        (&bad, 4, 4, stray),
+    ];
+    for (grid, made, status, line) in table {
+        for number in 1..made + 2 {
+            let end = info(&rt, "1", grid, &[(Call::Read, number)])?;
+            let failed = number <= made;
+            assert_eq!(rt;
+                end.status,
+                if failed { 6 } else { status },
+                "{made} {number}"
+            );
+            assert_eq!(rt;
+                end.err.written(),
+                if failed { GRID_FAILED } else { line },
+                "{made} {number}"
+            );
+            assert_eq!(rt; end.depot.reads(), made.min(number), "{made} {number}");
+            assert_eq!(rt;
+                end.depot.faults(),
+                if failed { 1 } else { 0 },
+                "{made} {number}"
+            );
+            let output: &[u8] = if failed || status != 0 {
+                b""
+            } else {
+                INFOS[0].1
+            };
+            assert_eq!(rt; end.out.written(), output, "{made} {number}");
+        }
+    }
+    Ok(())
+}

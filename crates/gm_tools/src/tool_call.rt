@@ -7,6 +7,7 @@ ghost use Rattle.gm_commands.specs.Endings.{call_of, IsComplete, IsUsageCall};
 ghost use Rattle.gm_tools.specs.Tools.{tool_in, tool_reading, ToolReads, ToolSucceeds, ToolFails, ToolKeepsOthers, IsToolStatus};
 
 use crate::build_tool::run_build;
+use crate::info_tool::run_info;
 use gm_base::Words;
 use gm_commands::{Command, conclude, read_command, say_usage};
 use gm_outside::{Depot, Sink};
@@ -47,6 +48,10 @@ pub fn tool<D: Depot, K: Sink, E: Sink>(
         Some(Command::Build(build)) => {
             let outcome = run_build(alloc, &build, depot, out);
             conclude(err, &Command::Build(build), outcome)
+        }
+        Some(Command::Info(info)) => {
+            let outcome = run_info(alloc, &info, depot, out);
+            conclude(err, &Command::Info(info), outcome)
         }
         Some(Command::Run(_)) | None => {
             say_usage(err);

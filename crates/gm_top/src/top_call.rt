@@ -2,7 +2,7 @@
 
 ghost use Rattle.std.specs.Prelude.{◌≡◌, ◌≤◌, IfOk, MatchResult};
 ghost use Rattle.gm_outside.specs.Calls.{depot_change, sink_change};
-ghost use Rattle.gm_commands.specs.Commands.{said};
+ghost use Rattle.gm_commands.specs.Commands.{said, HasChunkSize};
 ghost use Rattle.gm_commands.specs.Endings.{call_of};
 ghost use Rattle.gm_commands.specs.Failures.{status_of};
 ghost use Rattle.gm_top.specs.RunEndings.{CommandHandles, Reads, KeepsFiles, most_success, IsCompleteFor};
@@ -12,7 +12,7 @@ use crate::run_call::run;
 use gm_base::Words;
 use gm_commands::{Command, Failure, conclude, read_command, say_usage};
 use gm_outside::{Depot, Gate, Sink};
-use gm_tools::run_build;
+use gm_tools::{run_build, run_info};
 use std::sync::Arc;
 
 /// Does what the command says. The answer is the status after it.
@@ -22,6 +22,7 @@ fn perform<R: AllocGlobal, D: Depot, K: Sink>(
     depot: &mut D,
     out: &mut K,
 ) -> Result<u8, Failure>
+    requires { HasChunkSize (said command.now) }
     ensures handles { CommandHandles (said command.now) (depot_change ⟦<D as Depot>⟧ depot.old depot.new) (sink_change ⟦<K as Sink>⟧ out.old out.new) result }
     ensures status { IfOk result (λ status. status ≤ most_success (said command.now)) }
     ensures files { KeepsFiles (said command.now) (depot_change ⟦<D as Depot>⟧ depot.old depot.new) }
@@ -38,6 +39,7 @@ fn perform<R: AllocGlobal, D: Depot, K: Sink>(
     match command {
         Command::Run(command) => run(rt.alloc(), command, depot, out),
         Command::Build(command) => run_build(rt.alloc(), command, depot, out),
+        Command::Info(command) => run_info(rt.alloc(), command, depot, out),
     }
 }
 

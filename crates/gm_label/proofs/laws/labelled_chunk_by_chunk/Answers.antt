@@ -1,14 +1,8 @@
-use Rattle.gm_label.specs.CataloguesRules.{labelled_up_to-none, labelled_up_to-fresh, labelled_up_to-next, labelled_up_to-all}
+use Rattle.gm_label.specs.CataloguesRules.{labelled_up_to-fresh, labelled_up_to-next}
 use Rattle.gm_label.proofs.laws.labelled_chunk_by_chunk.Goals as goal
-
-pub returns-clause-none : goal.returns-clause-none
-returns-clause-none c = labelled_up_to-none
 
 pub returns-clause-fresh : goal.returns-clause-fresh
 returns-clause-fresh c = labelled_up_to-fresh
 
 pub returns-clause-next : goal.returns-clause-next
 returns-clause-next c = labelled_up_to-next
-
-pub returns-clause-all : goal.returns-clause-all
-returns-clause-all c = labelled_up_to-all

@@ -1,0 +1,42 @@
+use Rattle.std.proofs.Common.{◌≡◌, ◌+◌, ◌*◌, length, ◌∙◌}
+use Rattle.gm_grid.specs.Format.{AreRangesOf, is_in_block}
+use Rattle.gm_grid.specs.GridBytes.{index_end}
+use Rattle.gm_label.specs.Catalogues.{place_at}
+use Rattle.gm_source.specs.Fetches.{chunk_start}
+use Rattle.gm_source.proofs.Fetched.{told_chunk, none_fails_in_range, reads_chunk, unchanged_ok}
+use Rattle.gm_source.proofs.fetching.read_chunk.Goals as goal
+
+pub returns-clause-reads : goal.returns-clause-reads
+returns-clause-reads g c =
+    let cat = c.args.cat.now in
+    let place = c.chunk-place.ensures.value in
+    let pos : c.edge_start-start.result ≡ chunk_start cat c.args.chunk =
+    c.edge_start-start.ensures ∙ (λ i. index_end (c.shape-2.ensures i) + 12 * (place i).first) in
+    let room : length c.deref_mut.result.now ≡ 12 * (place_at cat c.args.chunk).count =
+    c.deref_mut.ensures.len ∙ c.in_ok-buffer.ensures ∙ (λ i. 12 * (place i).length) in
+    let are : AreRangesOf cat.dimensions (place_at cat c.args.chunk).block c.of-ranges.result =
+    λ e. c.of-ranges.ensures e ∙ (λ i. is_in_block (c.shape.ensures i) (place i).block e) in
+    reads_chunk (g.D.Depot.files c.args.depot.now) c.args.name.now cat c.args.chunk c.of-ranges.result c.edge_start-start.result
+    (length c.deref_mut.result.now) c.read_edges.new.buffer c.read_edges.new.edges.items c.read_edges.result are pos room
+    c.read_edges.ensures.length c.read_edges.ensures.decoded c.read_edges.ensures.bytes
+
+pub returns-clause-told : goal.returns-clause-told
+returns-clause-told g c = λ bytes tells.
+    let cat = c.args.cat.now in
+    let files = g.D.Depot.files c.args.depot.now in
+    let laws = c.grid_reads_back.ensures in
+    unchanged_ok files c.args.name.now bytes cat c.args.chunk c.read_edges.new.edges.items c.read_edges.result tells
+    (told_chunk files c.args.name.now bytes cat c.args.chunk laws.shape laws.edges laws.size tells c.requires) (returns-clause-reads g c)
+
+pub returns-clause-calm : goal.returns-clause-calm
+returns-clause-calm g c = λ bytes calm tells failed.
+    let cat = c.args.cat.now in
+    let files = g.D.Depot.files c.args.depot.now in
+    let laws = c.grid_reads_back.ensures in
+    let place = c.chunk-place.ensures.value in
+    let pos : c.edge_start-start.result ≡ chunk_start cat c.args.chunk =
+    c.edge_start-start.ensures ∙ (λ i. index_end (c.shape-2.ensures i) + 12 * (place i).first) in
+    let room : length c.deref_mut.result.now ≡ 12 * (place_at cat c.args.chunk).count =
+    c.deref_mut.ensures.len ∙ c.in_ok-buffer.ensures ∙ (λ i. 12 * (place i).length) in
+    none_fails_in_range files c.args.name.now bytes cat c.args.chunk c.edge_start-start.result (length c.deref_mut.result.now) _ tells
+    (told_chunk files c.args.name.now bytes cat c.args.chunk laws.shape laws.edges laws.size tells c.requires) pos room (c.read_edges.ensures.calm calm) failed

@@ -1,0 +1,102 @@
+use Rattle.std.proofs.Common.{◌≡◌, ◌+◌, ◌*◌, ℕ, List, length, sym, ap, subst, ◌∙◌, arith, Some, true}
+use Rattle.std.specs.Prelude.{All}
+use Rattle.std.proofs.lemmas.List.{length-take-le}
+use Rattle.std.proofs.lemmas.List.Elements.{All-weaker}
+use Rattle.gm_base.specs.declared.edge.Edge.{Edge}
+use Rattle.gm_base.specs.Dimensions.{block_of}
+use Rattle.gm_base.specs.Graph.{HasEndsBelow}
+use Rattle.gm_grid.specs.Format.{is_in_block, is_within, AreRangesOf}
+use Rattle.gm_grid.specs.GridBytes.{edges_of_bytes}
+use Rattle.gm_grid.specs.GridBytesRules.{length-edges_of_bytes}
+use Rattle.gm_grid.specs.declared.grid_error.GridError.TheVariants.{BadEdge}
+use Rattle.gm_label.specs.Catalogues.{place_at, with_label}
+use Rattle.gm_label.specs.Labels.{label_of}
+use Rattle.gm_outside.specs.FramesRules.{only_reads-more}
+use Rattle.gm_source.specs.OpeningsRules.{opens_by-grid, opens_by-trouble}
+use Rattle.gm_source.proofs.Told.{told-weaker, told-both, told-piece}
+use Rattle.gm_source.proofs.Decoding.{all_in, in_block-means, no_stray, a_stray}
+use Rattle.gm_source.proofs.LabelledChunks.{chunk-labelled, chunk-refused, chunk-in_range}
+use Rattle.gm_source.proofs.labelling.label_chunk.Goals as goal
+
+pub set_label_of-requires-clause-count : goal.set_label_of-requires-clause-count
+set_label_of-requires-clause-count g c =
+    let read = c.in-Ok.ensures in
+    let decoded = no_stray (is_within c.of-ranges.result) (edges_of_bytes c.read_edges.new.buffer) _ c.in-Ok.stray (sym c.is_some.ensures ∙ c.if-is_some.false) read.decoded in
+    let count : c.chunk-place.result.length ≡ (place_at c.args.cat.now c.args.chunk).count = (λ i. (c.chunk-place.ensures.value i).length) in
+    let whole = length-take-le (12 * c.chunk-place.result.length) c.args.buffer.now (omega (arith, c.requires.room)) in
+    let edges = ap length (c.deref.ensures.value ∙ decoded.0) ∙ length-edges_of_bytes c.read_edges.new.buffer in
+    omega (arith, read.length)
+
+pub set_label_of-requires-clause-placed : goal.set_label_of-requires-clause-placed
+set_label_of-requires-clause-placed g c =
+    let read = c.in-Ok.ensures in
+    let decoded = no_stray (is_within c.of-ranges.result) (edges_of_bytes c.read_edges.new.buffer) _ c.in-Ok.stray (sym c.is_some.ensures ∙ c.if-is_some.false) read.decoded in
+    let d = c.args.cat.now.dimensions in
+    let block : ℕ = (place_at c.args.cat.now c.args.chunk).block in
+    let are : AreRangesOf d block c.of-ranges.result =
+    λ e. c.of-ranges.ensures e ∙ (λ i. is_in_block (c.shape.ensures i) (c.chunk-place.ensures.value i).block e) in
+    subst (λ (edges : List Edge). All (λ e. HasEndsBelow d.n e × (block_of d e ≡ block)) edges) (sym (c.deref.ensures.value ∙ decoded.0))
+    (All-weaker (λ e. is_within c.of-ranges.result e ≡ true) (λ e. HasEndsBelow d.n e × (block_of d e ≡ block))
+    (λ e inside. in_block-means d block e (sym (are e) ∙ inside)) (edges_of_bytes c.read_edges.new.buffer)
+    (all_in (is_within c.of-ranges.result) (edges_of_bytes c.read_edges.new.buffer) decoded.1))
+
+pub returns-clause-labelled : goal.returns-clause-labelled
+returns-clause-labelled g c size labelled =
+    let read = c.in-Ok.ensures in
+    let decoded = no_stray (is_within c.of-ranges.result) (edges_of_bytes c.read_edges.new.buffer) _ c.in-Ok.stray (sym c.is_some.ensures ∙ c.if-is_some.false) read.decoded in
+    let files = g.D.Depot.files c.args.depot.now in
+    let name = c.args.name.now in
+    let cat = c.args.cat.now in
+    let k = c.args.chunk in
+    let piece = c.read_edges.new.buffer in
+    let first : c.args.edges_at + 12 * c.chunk-place.result.first ≡ c.args.edges_at + 12 * (place_at cat k).first = (λ i. c.args.edges_at + 12 * (c.chunk-place.ensures.value i).first) in
+    let count : c.chunk-place.result.length ≡ (place_at cat k).count = (λ i. (c.chunk-place.ensures.value i).length) in
+    let whole = length-take-le (12 * c.chunk-place.result.length) c.args.buffer.now (omega (arith, c.requires.room)) in
+    let long : length piece ≡ 12 * (place_at cat k).count = omega (arith, read.length) in
+    let are : AreRangesOf cat.dimensions (place_at cat k).block c.of-ranges.result =
+    λ e. c.of-ranges.ensures e ∙ (λ i. is_in_block (c.shape.ensures i) (c.chunk-place.ensures.value i).block e) in
+    let is = c.in_ok-set_label_of.ensures.ok ∙ ap (λ (edges : List Edge). with_label cat k (label_of edges)) c.deref.ensures.value in
+    told-weaker files name _ _
+    (λ bytes told. chunk-labelled size k c.args.edges_at cat c.set_label_of.new.cat piece bytes c.read_edges.new.edges.items c.of-ranges.result
+    c.requires.end c.requires.within long read.are_bytes are decoded is told)
+    (told-both files name _ _ labelled (told-piece files name _ _ _ _ piece read.length first labelled read.bytes))
+
+pub returns-then-is_some-clause-opens : goal.returns-then-is_some-clause-opens
+returns-then-is_some-clause-opens g c size labelled =
+    let read = c.in-Ok.ensures in
+    let stray = a_stray (is_within c.of-ranges.result) (edges_of_bytes c.read_edges.new.buffer) _ c.in-Ok.stray (sym c.is_some.ensures ∙ c.if-is_some.true) read.decoded in
+    let files = g.D.Depot.files c.args.depot.now in
+    let name = c.args.name.now in
+    let cat = c.args.cat.now in
+    let k = c.args.chunk in
+    let piece = c.read_edges.new.buffer in
+    let first : c.args.edges_at + 12 * c.chunk-place.result.first ≡ c.args.edges_at + 12 * (place_at cat k).first = (λ i. c.args.edges_at + 12 * (c.chunk-place.ensures.value i).first) in
+    let count : c.chunk-place.result.length ≡ (place_at cat k).count = (λ i. (c.chunk-place.ensures.value i).length) in
+    let whole = length-take-le (12 * c.chunk-place.result.length) c.args.buffer.now (omega (arith, c.requires.room)) in
+    let long : length piece ≡ 12 * (place_at cat k).count = omega (arith, read.length) in
+    let are : AreRangesOf cat.dimensions (place_at cat k).block c.of-ranges.result =
+    λ e. c.of-ranges.ensures e ∙ (λ i. is_in_block (c.shape.ensures i) (c.chunk-place.ensures.value i).block e) in
+    let index : (place_at cat k).first + length c.read_edges.new.edges.items ≡ c.chunk-place.result.first + c.len.result =
+    let at : c.chunk-place.result.first ≡ (place_at cat k).first = (λ i. (c.chunk-place.ensures.value i).first) in
+    omega (arith, c.len.ensures, c.read_edges.new.edges.ok) in
+    opens_by-grid g.D.Depot _ _ _ size name _ (only_reads-more g.D.Depot _ _ _ _ (omega (arith, whole, count)) read.frame) (read.cause.kept (λ is. cc))
+    (told-weaker files name _ _
+    (λ bytes told. chunk-refused size k c.args.edges_at cat piece bytes _ c.of-ranges.result c.requires.end c.requires.within long are stray
+    (c.grid_by_parts.ensures.sizes bytes told.0.index.head.taken told.0.index.taken) told ∙ ap (λ (n : ℕ). Some (BadEdge n)) index)
+    (told-both files name _ _ labelled (told-piece files name _ _ _ _ piece read.length first labelled read.bytes)))
+
+pub returns-in-Err-clause-opens : goal.returns-in-Err-clause-opens
+returns-in-Err-clause-opens g c size labelled =
+    let read = c.in-Err.ensures in
+    let files = g.D.Depot.files c.args.depot.now in
+    let name = c.args.name.now in
+    let cat = c.args.cat.now in
+    let k = c.args.chunk in
+    let first : c.args.edges_at + 12 * c.chunk-place.result.first ≡ c.args.edges_at + 12 * (place_at cat k).first = (λ i. c.args.edges_at + 12 * (c.chunk-place.ensures.value i).first) in
+    let count : c.chunk-place.result.length ≡ (place_at cat k).count = (λ i. (c.chunk-place.ensures.value i).length) in
+    let whole = length-take-le (12 * c.chunk-place.result.length) c.args.buffer.now (omega (arith, c.requires.room)) in
+    rw c.into.ensures (opens_by-trouble g.D.Depot _ _ _ size name c.in-Err.trouble _ _ (only_reads-more g.D.Depot _ _ _ _ (omega (arith, whole, count)) read.frame) read.cause read.calm (g.met.D.Depot.calm_tells c.args.depot.now)
+    (told-weaker files name _ _
+    (λ bytes told. let inside = chunk-in_range size k c.args.edges_at cat bytes c.requires.end c.requires.within
+    (c.grid_by_parts.ensures.sizes bytes told.index.head.taken told.index.taken) told in omega (arith, inside, first, count, whole))
+    labelled))

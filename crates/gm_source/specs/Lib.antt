@@ -1,0 +1,4 @@
+pub mod Openings
+pub mod OpeningsRules
+pub mod Fetches
+pub mod FetchesRules

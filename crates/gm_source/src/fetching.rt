@@ -1,0 +1,182 @@
+//! Fetching one chunk.
+
+ghost use Rattle.std.specs.Prelude.{◌≡◌, ◌+◌, ◌*◌, ◌<◌, ◌≤◌, ℕ, List, length, All, IsTrue, IsErrOf, IfOk, OnOk};
+ghost use Rattle.gm_base.specs.declared.limits.TheConstants.{MAX_EDGES};
+ghost use Rattle.gm_outside.specs.Calls.{depot_change};
+ghost use Rattle.gm_outside.specs.Causes.{counted_times, HasExactCause};
+ghost use Rattle.gm_outside.specs.Frames.{OnlyReads};
+ghost use Rattle.gm_grid.specs.GridBytes.{index_end, edges_in};
+ghost use Rattle.gm_label.specs.Labels.{label_of};
+ghost use Rattle.gm_label.specs.Catalogues.{place_at, label_at, base_at};
+ghost use Rattle.gm_source.specs.declared.fetching.FetchError.TheVariants as FetchErrors;
+ghost use Rattle.gm_source.specs.Openings.{chunk_reads};
+ghost use Rattle.gm_source.specs.Fetches.{TellsGrid, WasRead, WasFound, FitsCatalogue, LiesInChunk, Differs, ReadsChunk, IsUnchanged, fetch_error_of};
+
+use crate::reading::{read_edges, zeros};
+use gm_base::{Edge, Edges, Memory, Shape};
+use gm_grid::laws::grid_reads_back;
+use gm_grid::{BlockRanges, index_size};
+use gm_label::{Catalogue, Label, Raw, SourceCounts};
+use gm_outside::{Depot, Trouble};
+use std::alloc::Global;
+
+/// What was found in place of a chunk's edges.
+#[derive(Drop)]
+pub enum Found {
+    /// An edge that doesn't lie in the chunk's block, the first one. The index is its number in the file, counted from 0.
+    Stray { index: u64, edge: Edge },
+    /// Edges of the block with another label than the catalogue has of the chunk.
+    Labels { kept: Label, found: Label },
+}
+
+/// Why a chunk isn't fetched.
+#[derive(Drop)]
+pub enum FetchError {
+    /// The depot failed.
+    Fault,
+    /// The chunk isn't what it was when the grid was opened.
+    Changed { found: Found },
+    /// There was no memory.
+    Memory,
+}
+
+impl From<Memory> for FetchError {
+    ghost from_gives = { λ _ error. error ≡ FetchErrors.Memory };
+
+    fn from(_error: Memory) -> FetchError {
+        FetchError::Memory
+    }
+}
+
+impl From<Trouble> for FetchError {
+    ghost from_gives = { λ trouble error. error ≡ fetch_error_of trouble };
+
+    fn from(trouble: Trouble) -> FetchError {
+        match trouble {
+            Trouble::Failed => FetchError::Fault,
+            Trouble::Memory => FetchError::Memory,
+        }
+    }
+}
+
+/// Where an edge stands in the file of a grid, by its number.
+fn edge_start(shape: &Shape, index: u64) -> u64
+    requires { index ≤ MAX_EDGES }
+    ensures { result ≡ index_end shape.now + 12 * index }
+{
+    16 + index_size(shape) as u64 + 12 * index
+}
+
+/// Reads a chunk's edges up to the first that isn't in its block, which is answered.
+fn read_chunk<D: Depot>(
+    alloc: Global,
+    depot: &mut D,
+    name: &str,
+    cat: &Catalogue,
+    chunk: u32,
+    edges: &mut Vec<Edge>,
+) -> Result<Option<Edge>, Trouble>
+    requires { chunk < length cat.now.places }
+    ensures reads { IfOk result (λ stray. ReadsChunk (D.files depot.old) name.now cat.now chunk edges.new.items stray) }
+    ensures told { (bytes : List ℕ) → TellsGrid (D.files depot.old) name.now cat.now bytes
+        → IfOk result (λ stray. IsUnchanged bytes cat.now chunk edges.new.items stray) }
+    ensures cause { HasExactCause Trouble.Failed (D.faults depot.old) (D.faults depot.new) result }
+    ensures calm { (bytes : List ℕ) → IsTrue (D.calm depot.old) → TellsGrid (D.files depot.old) name.now cat.now bytes
+        → IsErrOf result Trouble.Failed → ⊥ }
+    ensures read { (IsErrOf result Trouble.Memory → ⊥)
+        → D.reads depot.new ≡ counted_times (chunk_reads (place_at cat.now chunk)) (D.reads depot.old) }
+    ensures frame { OnlyReads (chunk_reads (place_at cat.now chunk)) (depot_change ⟦<D as Depot>⟧ depot.old depot.new) }
+{
+    grid_reads_back();
+    let place = cat.chunk(chunk);
+    let mut buffer = zeros(alloc, 12 * place.length as usize)?;
+    edges.reserve_exact(place.length as usize)?;
+    let ranges = BlockRanges::of(cat.shape(), place.block);
+    let start = edge_start(cat.shape(), place.first);
+    read_edges(depot, name, start, &ranges, &mut buffer, edges)
+}
+
+/// Two labels of a chunk that differ: the catalogue's, and that of these edges.
+fn two_labels(alloc: Global, cat: &Catalogue, chunk: u32, edges: &[Edge]) -> Result<Found, Memory>
+    requires within { chunk < length cat.now.places }
+    requires few { length edges.now ≤ MAX_EDGES }
+    requires placed { All (LiesInChunk cat.now chunk) edges.now }
+    requires other { label_of edges.now ≡ label_at cat.now chunk → ⊥ }
+    ensures { IfOk result (λ found. Differs cat.now chunk edges.now found) }
+{
+    let kept = Label::from_slice(alloc, cat.label(chunk))?;
+    let found = Label::of(alloc, edges)?;
+    Ok(Found::Labels { kept, found })
+}
+
+/// Whether these edges of a chunk's block have the label that the catalogue has of the chunk.
+#[tactic(auto, using(gm_label::specs::CataloguesRules::labelling))]
+fn has_label(alloc: Global, cat: &Catalogue, chunk: u32, edges: &[Edge]) -> Result<bool, Memory>
+    requires within { chunk < length cat.now.places }
+    requires few { length edges.now ≤ MAX_EDGES }
+    requires placed { All (LiesInChunk cat.now chunk) edges.now }
+    ensures yes { IfOk result (λ has. IsTrue has → label_of edges.now ≡ label_at cat.now chunk) }
+    ensures no { IfOk result (λ has. label_of edges.now ≡ label_at cat.now chunk → IsTrue has) }
+{
+    let _vertices = cat.shape().n();
+    let block = cat.chunk(chunk).block;
+    let (first, end) = (cat.first_source(block), cat.end_source(block));
+    let mut counts = SourceCounts::new(alloc);
+    counts.count(first, end, edges)?;
+    Ok(counts.matches(cat.label(chunk)))
+}
+
+/// Refuses edges of a chunk's block that have another label than the catalogue has of it.
+fn check_label(alloc: Global, cat: &Catalogue, chunk: u32, edges: &[Edge]) -> Result<(), FetchError>
+    requires within { chunk < length cat.now.places }
+    requires few { length edges.now ≤ MAX_EDGES }
+    requires placed { All (LiesInChunk cat.now chunk) edges.now }
+    ensures ok { OnOk result (label_of edges.now ≡ label_at cat.now chunk) }
+    ensures changed { (found : Found) → IsErrOf result (FetchError.Changed found) → Differs cat.now chunk edges.now found }
+    ensures no_fault { IsErrOf result FetchError.Fault → ⊥ }
+{
+    if has_label(alloc, cat, chunk, edges)? {
+        return Ok(());
+    }
+    let found = two_labels(alloc, cat, chunk, edges)?;
+    Err(FetchError::Changed { found })
+}
+
+/// Brings the edges of a chunk of the grid that this catalogue is of, by one read, or by none where it has none. `Changed` says what
+/// was found where they don't lie in the chunk's block or don't have its label.
+pub fn fetch<D: Depot>(
+    alloc: Global,
+    depot: &mut D,
+    name: &str,
+    cat: &Catalogue,
+    chunk: u32,
+) -> Result<Raw, FetchError>
+    requires { chunk < length cat.now.places }
+    ensures ok { IfOk result (λ raw. FitsCatalogue cat.now chunk raw) }
+    ensures from { IfOk result (λ raw. WasRead (D.files depot.old) name.now cat.now chunk raw.edges) }
+    ensures told { (bytes : List ℕ) → TellsGrid (D.files depot.old) name.now cat.now bytes
+        → IfOk result (λ raw. raw.edges ≡ base_at cat.now (edges_in bytes) chunk) }
+    ensures changed { (found : Found) → IsErrOf result (FetchError.Changed found)
+        → WasFound (D.files depot.old) name.now cat.now chunk found }
+    ensures unchanged { (bytes : List ℕ) (found : Found) → TellsGrid (D.files depot.old) name.now cat.now bytes
+        → IsErrOf result (FetchError.Changed found) → ⊥ }
+    ensures cause { HasExactCause FetchError.Fault (D.faults depot.old) (D.faults depot.new) result }
+    ensures calm { (bytes : List ℕ) → IsTrue (D.calm depot.old) → TellsGrid (D.files depot.old) name.now cat.now bytes
+        → IsErrOf result FetchError.Fault → ⊥ }
+    ensures read { (IsErrOf result FetchError.Memory → ⊥)
+        → D.reads depot.new ≡ counted_times (chunk_reads (place_at cat.now chunk)) (D.reads depot.old) }
+    ensures frame { OnlyReads (chunk_reads (place_at cat.now chunk)) (depot_change ⟦<D as Depot>⟧ depot.old depot.new) }
+{
+    let first = cat.chunk(chunk).first;
+    let mut edges = Vec::new(alloc);
+    if let Some(edge) = read_chunk(alloc, depot, name, cat, chunk, &mut edges)? {
+        let index = first + edges.len() as u64;
+        let found = Found::Stray { index, edge };
+        return Err(FetchError::Changed { found });
+    }
+    check_label(alloc, cat, chunk, edges.as_slice())?;
+    Ok(Raw {
+        chunk,
+        edges: Edges::from_vec(edges),
+    })
+}

@@ -1,0 +1,16 @@
+//! A grid opened chunk by chunk, and one chunk fetched.
+#![tactic(auto)]
+
+mod errors;
+mod fetching;
+mod labelling;
+pub mod laws;
+mod opening;
+mod reading;
+#[cfg(test)]
+mod tests;
+
+pub use errors::OpenError;
+pub use fetching::{FetchError, Found, fetch};
+pub use gm_label::Raw;
+pub use opening::open_grid;
