@@ -5,7 +5,7 @@ ghost use Rattle.gm_base.specs.Graph.{edge};
 
 use crate::build;
 use gm_base::{Edge, Edges, Shape};
-use gm_outside::MemDepot;
+use gm_fakes::MemDepot;
 use std::test::Fail;
 
 /// A path over four vertices with a shortcut, in two ranges.

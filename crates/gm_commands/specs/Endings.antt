@@ -7,7 +7,7 @@ use Rattle.gm_commands.specs.declared.failure.Failure.{Failure}
 use Rattle.gm_commands.specs.declared.failure.Failure.TheVariants.{Refused, ReadFailed, WriteFailed, OutputFailed, OutOfMemory}
 use Rattle.gm_commands.specs.Commands.{Command}
 use Rattle.gm_commands.specs.Failures.{status_of, refusal_status}
-use Rattle.gm_commands.specs.Readings.{Reading, AreTaken, DepotFailed, DepotServed, IsReadingFailure}
+use Rattle.gm_commands.specs.Readings.{Reading, AreTaken, DepotFailed, DepotServed, ServedUnless, IsReadingFailure}
 use Rattle.gm_commands.specs.StandardError.{error_line, usage_line, IsSaid, SaysNothing}
 
 -- A call: its words, what it did to the depot, to standard output and to standard error, and its status.
@@ -31,6 +31,14 @@ pub record WritesNothing (depot : DepotChange) (out : SinkChange) : Type 0 where
   pub write_faults : depot.write_faults_now ≡ depot.write_faults
   pub output : out.holds ≡ out.held
 
+-- what a command that only reads leaves after this failure: nothing was written, or, where standard output failed or wants memory, this part
+abbrev pub LeavesPart : Type 0 → DepotChange → SinkChange → Failure → Type 0
+LeavesPart Part depot out (Refused refusal) = WritesNothing depot out
+LeavesPart Part depot out (ReadFailed operand) = WritesNothing depot out
+LeavesPart Part depot out (WriteFailed operand) = ⊥
+LeavesPart Part depot out OutputFailed = Part
+LeavesPart Part depot out OutOfMemory = WritesNothing depot out ⊎ Part
+
 -- nothing was asked of the depot or written to standard output
 pub record AsksNothing (depot : DepotChange) (out : SinkChange) : Type 0 where
   pub nothing : WritesNothing depot out
@@ -44,8 +52,8 @@ EndsBy reading depot out (Refused refusal) = IsReadingFailure reading depot (Ref
 EndsBy reading depot out (ReadFailed operand) = IsReadingFailure reading depot (ReadFailed operand) × OutputServed out
 EndsBy reading depot out (WriteFailed operand) =
     DepotFailed depot × Rose depot.write_faults depot.write_faults_now × AreTaken reading depot.files × OutputServed out
-EndsBy reading depot out OutputFailed = Rose out.faults out.faults_now × AreTaken reading depot.files × DepotServed depot
-EndsBy reading depot out OutOfMemory = DepotServed depot × OutputServed out
+EndsBy reading depot out OutputFailed = Rose out.faults out.faults_now × AreTaken reading depot.files × ServedUnless reading.fetches depot
+EndsBy reading depot out OutOfMemory = ServedUnless reading.fetches depot × OutputServed out
 
 -- What a command answers, the status after it or a failure, and what it leaves. It has succeeded where its files aren't refused, it did
 -- what it is for and no call failed.
@@ -53,7 +61,7 @@ pub record Handles (reading : Reading) (Performs : DepotChange → SinkChange �
     (depot : DepotChange) (out : SinkChange) (result : Result ℕ Failure) : Type 0 where
   pub taken : OnOk result (AreTaken reading depot.files)
   pub performs : IfOk result (Performs depot out)
-  pub served : OnOk result (DepotServed depot × OutputServed out)
+  pub served : OnOk result (ServedUnless reading.fetches depot × OutputServed out)
   pub cause : IfErr result (EndsBy reading depot out)
   pub leaves : IfErr result (Leaves depot out)
 
@@ -62,7 +70,7 @@ pub record HasSucceeded (reading : Command → Reading) (Performs : Command → 
     (command : Command) (call : CommandCall) : Type 0 where
   pub taken : AreTaken (reading command) call.depot.files
   pub performs : Performs command call.depot call.out call.status
-  pub depot_served : DepotServed call.depot
+  pub depot_served : ServedUnless (reading command).fetches call.depot
   pub output_served : OutputServed call.out
   pub silence : SaysNothing call.err
 

@@ -22,10 +22,12 @@ pub record Reading : Type 0 where
   pub refusal : Files → Option Refusal
   -- the same for what is known of the files when this one is asked for, in the reading's read of this number
   pub refusal_before : Operand → ℕ → Files → Option Refusal
+  -- whether chunks of a file are fetched again behind the reading, where a fault is told in the output and ends nothing else
+  pub fetches : Bool
 
 -- a command that reads nothing
 abbrev pub no_reading : Reading
-no_reading = record { reads = λ operand. false; refusal = λ files. None; refusal_before = λ operand number files. None }
+no_reading = record { reads = λ operand. false; refusal = λ files. None; refusal_before = λ operand number files. None; fetches = false }
 
 -- first one reading, and then the other where nothing was refused
 abbrev pub reading_then : Reading → Reading → Reading
@@ -34,6 +36,7 @@ reading_then first second = record {
   refusal = λ files. option_or (first.refusal files) (second.refusal files);
   refusal_before = λ operand number files.
       if first.reads operand then first.refusal_before operand number files else first.refusal files;
+  fetches = first.fetches || second.fetches;
 }
 
 abbrev pub is_operand : Operand → Operand → Bool
@@ -48,6 +51,7 @@ reading_of_file operand name refusal = record {
   reads = is_operand operand;
   refusal = λ files. refusal_of_file operand refusal (get files name);
   refusal_before = λ asked number files. None;
+  fetches = false;
 }
   where
     refusal_of_file : Operand → (List ℕ → Option Refusal) → Option (List ℕ) → Option Refusal
@@ -65,6 +69,11 @@ DepotFailed depot = Rose depot.faults depot.faults_now × (IsTrue depot.calm →
 -- no call on the depot failed
 abbrev pub DepotServed : DepotChange → Type 0
 DepotServed depot = depot.faults_now ≡ depot.faults
+
+-- the same of a command that fetches nothing behind its reading
+abbrev pub ServedUnless : Bool → DepotChange → Type 0
+ServedUnless true depot = Unit {0}
+ServedUnless false depot = DepotServed depot
 
 -- where the files are told, what was known of them before each read so far, and when this file was asked for, isn't refused
 abbrev pub IsUnrefusedBefore : Reading → DepotChange → Operand → Type 0

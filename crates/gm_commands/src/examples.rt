@@ -54,8 +54,12 @@ pub fn error_lines()
         (Failure.Refused (Refusal.Grid (GridError.BadSize 95 96))) ≡ codes "graphm: a.grid: size 95, expected 96\n" }
     ensures shape { error_line (run (record { grid = codes "a.grid"; jobs = codes "j.txt"; chunk = 1 }))
         (Failure.Refused (Refusal.Grid (GridError.BadShape 0 2))) ≡ codes "graphm: a.grid: bad shape n 0 parts 2\n" }
-    ensures chunks { error_line (info (record { grid = codes "a.grid"; chunk = 1 }))
-        (Failure.Refused (Refusal.Grid (GridError.TooManyChunks 1048577))) ≡ codes "graphm: a.grid: too many chunks 1048577\n" }
     ensures output { error_line (run (record { grid = codes "a.grid"; jobs = codes "j.txt"; chunk = 1 })) Failure.OutputFailed
         ≡ codes "graphm: output failed\n" }
+{}
+
+/// What a line on standard error says of an info.
+pub fn error_line_of_an_info()
+    ensures { error_line (info (record { grid = codes "a.grid"; chunk = 1 }))
+        (Failure.Refused (Refusal.Grid (GridError.TooManyChunks 1048577))) ≡ codes "graphm: a.grid: too many chunks 1048577\n" }
 {}

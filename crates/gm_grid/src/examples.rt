@@ -9,11 +9,18 @@ ghost use Rattle.gm_grid.specs.SmallGrids.{path_file, path_blocks, one_vertex_fi
 
 use crate::GridError;
 
+/// The bytes of the small file that [`grid_of_a_path`] speaks of, for tests.
+pub const PATH_BYTES: [u8; 96] = *b"GGRID001\x04\0\0\0\x02\0\0\0\
+    \x01\0\0\0\0\0\0\0\x02\0\0\0\0\0\0\0\0\0\0\0\0\0\0\0\x01\0\0\0\0\0\0\0\
+    \0\0\0\0\x01\0\0\0\x01\0\0\0\x01\0\0\0\x02\0\0\0\x01\0\0\0\
+    \0\0\0\0\x02\0\0\0\x05\0\0\0\x02\0\0\0\x03\0\0\0\x01\0\0\0";
+
 /// A path over four vertices with a shortcut, in two ranges.
 pub fn grid_of_a_path()
     ensures grid { IsGrid path_file 4 2 path_blocks }
     ensures accepted { grid_refusal 1 path_file ≡ None }
     ensures unchunked { unchunked_refusal path_file ≡ None }
+    ensures bytes { PATH_BYTES ≡ path_file }
 {}
 
 /// One vertex and no edges.

@@ -1,14 +1,9 @@
 //! Each call that can want memory, once with ample memory, and the texts of refusals.
 
+use crate::examples::PATH_BYTES;
 use crate::{GridError, read_grid, read_index};
 use gm_base::{Edge, Shape};
 use std::test::Fail;
-
-/// A path over four vertices with a shortcut, in two ranges.
-const PATH_FILE: [u8; 96] = *b"GGRID001\x04\0\0\0\x02\0\0\0\
-    \x01\0\0\0\0\0\0\0\x02\0\0\0\0\0\0\0\0\0\0\0\0\0\0\0\x01\0\0\0\0\0\0\0\
-    \0\0\0\0\x01\0\0\0\x01\0\0\0\x01\0\0\0\x02\0\0\0\x01\0\0\0\
-    \0\0\0\0\x02\0\0\0\x05\0\0\0\x02\0\0\0\x03\0\0\0\x01\0\0\0";
 
 fn edge(from: u32, to: u32, weight: u32) -> Edge {
     Edge { from, to, weight }
@@ -16,7 +11,7 @@ fn edge(from: u32, to: u32, weight: u32) -> Edge {
 
 #[test]
 fn reads_a_grid(rt: HostRuntime) -> Result<(), Fail> {
-    let grid = read_grid(rt.alloc(), &PATH_FILE)?;
+    let grid = read_grid(rt.alloc(), &PATH_BYTES)?;
     assert_eq!(rt; grid.shape.n(), 4);
     assert_eq!(rt; grid.shape.parts(), 2);
     let edges = [edge(0, 1, 1), edge(1, 2, 1), edge(0, 2, 5), edge(2, 3, 1)];
@@ -27,7 +22,7 @@ fn reads_a_grid(rt: HostRuntime) -> Result<(), Fail> {
 #[test]
 fn reads_an_index(rt: HostRuntime) -> Result<(), Fail> {
     let shape = Shape::new(4, 2).unwrap();
-    let index = read_index(rt.alloc(), &shape, &PATH_FILE[16..48])?;
+    let index = read_index(rt.alloc(), &shape, &PATH_BYTES[16..48])?;
     assert_eq!(rt; index.counts(), [1u64, 2, 0, 1].as_slice());
     assert_eq!(rt; index.edges(), 4);
     assert_eq!(rt; index.expected_size(), 96);

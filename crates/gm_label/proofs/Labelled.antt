@@ -1,14 +1,14 @@
 -- Chunks and how many of their edges have no label yet.
-use Rattle.std.proofs.Common.{◌≡◌, ℕ, zero, suc, ◌+◌, ◌-◌, ◌*◌, ◌<◌, ◌≤◌, false, List, [], ◌∷◌, map, length, get_or, set, replicate, sym, ap, ◌∙◌, refl, subst, arith, inl, inr, get_or-set_same, get_or-set_other}
+use Rattle.std.proofs.Common.{◌≡◌, ℕ, zero, suc, ◌+◌, ◌-◌, ◌<◌, ◌≤◌, List, [], ◌∷◌, map, length, get_or, set, replicate, sym, ap, ◌∙◌, refl, subst, arith, inl, inr, get_or-set_same, get_or-set_other}
 use Rattle.std.specs.List.{All, sum_by, sum}
 use Rattle.std.proofs.lemmas.List.{length-replicate, length-set}
-use Rattle.std.proofs.lemmas.List.Sums.{sum_by-cons, sum_by-append}
+use Rattle.std.proofs.lemmas.List.Sums.{sum_by-cons}
 use Rattle.std.proofs.lemmas.List.Elements.{All-nil, All-set, All-replicate}
 use Rattle.std.proofs.lemmas.Bool.{cases_eq}
 use Rattle.gm_base.specs.Dimensions.{Dimensions}
 use Rattle.gm_label.specs.declared.chunk.Place.{Place}
-use Rattle.gm_label.specs.Chunks.{cut_rest, before_last, chunks_of_block, chunks_from, chunks_of}
-use Rattle.gm_label.specs.ChunksRules.{sizes_add_up}
+use Rattle.gm_label.specs.Chunks.{chunks_of}
+use Rattle.gm_label.specs.ChunksRules.{chunks-count_edges}
 use Rattle.gm_label.specs.Labels.{sources_of, IsLabel, counted_edges}
 use Rattle.gm_label.specs.Catalogues.{no_place, IsSourceIn}
 use Rattle.gm_label.specs.Stored.{LabelTable, unlabelled_edges, AreLabelled}
@@ -77,22 +77,6 @@ unlabelled-none [] = refl
 unlabelled-none (place ∷ places) =
     let rest = unlabelled-none places in let all = sum_by-cons (λ (p : Place). p.count) place places in omega arith
 
-total_rest : (size block first rest more : ℕ) → sum_by (λ (p : Place). p.count) (cut_rest size block first rest more) ≡ size * more + rest
-total_rest size block first rest zero = omega arith
-total_rest size block first rest (suc more) =
-    let tail = total_rest size block (first + size) rest more in
-    let product : size * suc more ≡ size + size * more = omega arith in
-    sum_by-cons (λ (p : Place). p.count) (record { block = block; first = first; count = size; is_last = false }) (cut_rest size block (first + size) rest more) ∙ omega arith
-
-total_from : (size block first : ℕ) (counts : List ℕ) → sum_by (λ (p : Place). p.count) (chunks_from size block first counts) ≡ sum counts
-total_from size block first [] = refl
-total_from size block first (count ∷ counts) =
-    let here = total_rest size block first (count - size * before_last size count) (before_last size count) in
-    let whole = sizes_add_up size count in
-    let rest = total_from size (block + 1) (first + count) counts in
-    let all = sum_by-cons (λ (x : ℕ). x) count counts in
-    sum_by-append (λ (p : Place). p.count) (chunks_of_block size block first count) (chunks_from size (block + 1) (first + count) counts) ∙ omega arith
-
 -- chunks that were just cut
 none_listed : (n c : ℕ) → get_or (replicate n no_label) c no_label ≡ no_label
 none_listed zero c = refl
@@ -104,7 +88,7 @@ pub labelled-none : (d : Dimensions) (size : ℕ) (counts : List ℕ) (places : 
 labelled-none d size counts places now n left cut long whole is =
     let lists_are : replicate n [] ≡ replicate (length places) no_label = ap (λ (k : ℕ). replicate k no_label) long in
     let all : unlabelled_edges places (replicate n []) ≡ sum counts =
-    ap (unlabelled_edges places) lists_are ∙ unlabelled-none places ∙ ap (sum_by (λ (p : Place). p.count)) cut ∙ total_from size 0 0 counts in
+    ap (unlabelled_edges places) lists_are ∙ unlabelled-none places ∙ ap (sum_by (λ (p : Place). p.count)) cut ∙ chunks-count_edges size counts in
     subst (AreLabelled d places) (sym is) (record {
       labelled = length-replicate n [] ∙ long;
       are_labels = All-replicate IsLabel n [] tt;

@@ -14,7 +14,7 @@ use Rattle.gm_base.specs.DimensionsRules.{width_above, range_below}
 use Rattle.gm_base.specs.Graph.{HasEndsBelow}
 use Rattle.gm_label.specs.declared.chunk.Place.{Place}
 use Rattle.gm_label.specs.Chunks.{chunks_of, base_of}
-use Rattle.gm_label.specs.ChunksRules.{block-joined, chunks-joined, chunks-full, chunks-in_blocks, chunks-lie, blocks-in_blocks, chunks-within, chunks-have_edges, length-chunks_of, is_last_in, none_last, one_last}
+use Rattle.gm_label.specs.ChunksRules.{block-joined, chunks-joined, chunks-full, chunks-in_blocks, chunks-lie, blocks-in_blocks, chunks-within, chunks-have_edges, chunks-count_edges, length-chunks_of, is_last_in, none_last, one_last}
 use Rattle.gm_label.specs.Labels.{label_of, sources_of}
 use Rattle.gm_label.specs.LabelsRules.{sum_by-map, label-counts, label-lists, label-sources, label-total, label_of-is_label, one_label}
 use Rattle.gm_label.specs.Catalogues.{Catalogue, no_place, place_at, label_at, base_at, catalogue_of, unlabelled, with_label, labelled_up_to, first_source_of, IsSourceIn, FitsChunk, IsCut, IsOver}
@@ -155,4 +155,4 @@ labelled_up_to-all d size counts edges k past =
     ∙ ap known (append-nil (map (made_label edges) places))
 
 -- labels, and catalogues that are labelled chunk by chunk
-pub ruleset labelling = (label_of-is_label, label-counts, label-total, label-lists, source-in_rows, label-in_rows, label-fits, one_label, block-joined, chunks-joined, chunks-full, chunks-lie, blocks-in_blocks, chunks-within, chunks-have_edges, length-chunks_of, label_at-is, catalogue-is_over, labelled_up_to-none, labelled_up_to-fresh, labelled_up_to-next, labelled_up_to-all)
+pub ruleset labelling = (label_of-is_label, label-counts, label-total, label-lists, source-in_rows, label-in_rows, label-fits, one_label, block-joined, chunks-joined, chunks-full, chunks-lie, blocks-in_blocks, chunks-within, chunks-have_edges, chunks-count_edges, length-chunks_of, label_at-is, catalogue-is_over, labelled_up_to-none, labelled_up_to-fresh, labelled_up_to-next, labelled_up_to-all)

@@ -1,5 +1,5 @@
 -- What proofs need of chunks: joined they are the edges again, all but a block's last are full, and they stand block by block.
-use Rattle.std.specs.Prelude.{◌≡◌, ℕ, zero, suc, ◌+◌, ◌-◌, ◌*◌, ◌/◌, ◌%◌, ◌<◌, ◌≤◌, Bool, true, false, ◌&&◌, ◌⊎◌, cond, List, [], ◌∷◌, ◌++◌, map, length, take, drop, sum, flat_map, count_by, All, refl}
+use Rattle.std.specs.Prelude.{◌≡◌, ℕ, zero, suc, ◌+◌, ◌-◌, ◌*◌, ◌/◌, ◌%◌, ◌<◌, ◌≤◌, Bool, true, false, ◌&&◌, ◌⊎◌, cond, List, [], ◌∷◌, ◌++◌, map, length, take, drop, sum, sum_by, flat_map, count_by, All, refl}
 use Rattle.std.specs.List.{AllByRecursion}
 use Rattle.std.proofs.Common.{eqb, get_or, append-nil, length-append, inl, inr, sym, ap, ◌∙◌, subst, arith, div-mul-le_self, div-le_self, mul_comm, append_assoc}
 use Rattle.std.proofs.lemmas.Bool.{cases_lt, eq-eqb, ne_eqb}
@@ -268,3 +268,23 @@ pub chunks-have_edges : (size : ℕ) (counts : List ℕ) (edges : List Edge) →
 chunks-have_edges size counts edges whole =
     All-weaker (λ (p : Place). p.first + p.count ≤ sum counts) (λ p. length (base_of edges p) ≡ p.count)
     (λ p end. let long = length-drop p.first edges in length-take-le p.count (drop p.first edges) (omega arith)) (chunks_of size counts) (chunks-within size counts)
+
+counted_rest : (size block first rest more : ℕ) → sum_by (λ (p : Place). p.count) (cut_rest size block first rest more) ≡ size * more + rest
+counted_rest size block first rest zero = omega arith
+counted_rest size block first rest (suc more) =
+    let tail = counted_rest size block (first + size) rest more in
+    let product : size * suc more ≡ size + size * more = omega arith in
+    sum_by-cons (λ (p : Place). p.count) (record { block = block; first = first; count = size; is_last = false }) (cut_rest size block (first + size) rest more) ∙ omega arith
+
+counted_from : (size block first : ℕ) (counts : List ℕ) → sum_by (λ (p : Place). p.count) (chunks_from size block first counts) ≡ sum counts
+counted_from size block first [] = refl
+counted_from size block first (count ∷ counts) =
+    let here = counted_rest size block first (count - size * before_last size count) (before_last size count) in
+    let whole = sizes_add_up size count in
+    let rest = counted_from size (block + 1) (first + count) counts in
+    let all = sum_by-cons (λ (x : ℕ). x) count counts in
+    sum_by-append (λ (p : Place). p.count) (chunks_of_block size block first count) (chunks_from size (block + 1) (first + count) counts) ∙ omega arith
+
+-- all chunks have all edges
+pub chunks-count_edges : (size : ℕ) (counts : List ℕ) → sum_by (λ (p : Place). p.count) (chunks_of size counts) ≡ sum counts
+chunks-count_edges size counts = counted_from size 0 0 counts

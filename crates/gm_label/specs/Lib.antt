@@ -6,4 +6,5 @@ pub mod Catalogues
 pub mod CataloguesRules
 pub mod Counts
 pub mod Stored
+pub mod Overlays
 pub mod Examples

@@ -1,2 +1,1 @@
-mod StoredFiles
 mod Written

@@ -2,11 +2,8 @@ pub mod Calls
 pub mod Causes
 pub mod Changes
 pub mod ChangesRules
-pub mod FileList
 pub mod Files
 pub mod Frames
 pub mod FramesRules
 pub mod Growth
 pub mod GrowthRules
-pub mod Memory
-pub mod Notes

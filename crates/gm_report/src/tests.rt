@@ -2,7 +2,8 @@
 
 use crate::write;
 use gm_base::{JobLine, Name, Outcome, TOP, Values};
-use gm_outside::{MemSink, Trouble};
+use gm_fakes::MemSink;
+use gm_outside::Trouble;
 use std::test::Fail;
 
 /// A job whose report has three pieces, 9,750 bytes in all: lines of 23 to 25 bytes behind one of 35.

@@ -1,10 +1,10 @@
 -- Chunks stand one behind the other, and joined they are the file's edges with their blocks.
-use Rattle.std.proofs.Common.{◌≡◌, ℕ, zero, suc, ◌+◌, ◌-◌, ◌*◌, ◌<◌, ◌≤◌, false, List, [], ◌∷◌, ◌++◌, length, map, take, drop, get_or, refl, sym, ap, subst, ◌∙◌, arith}
-use Rattle.std.specs.Prelude.{flat_map, sum, sum_by}
+use Rattle.std.proofs.Common.{◌≡◌, ℕ, zero, suc, ◌+◌, ◌-◌, ◌*◌, ◌<◌, ◌≤◌, List, [], ◌∷◌, ◌++◌, length, map, take, drop, get_or, refl, sym, ap, subst, ◌∙◌, arith}
+use Rattle.std.specs.Prelude.{flat_map, sum}
 use Rattle.std.specs.List.{AllByRecursion}
 use Rattle.std.proofs.lemmas.List.{map-append, drop-drop, length-append, length-map}
 use Rattle.std.proofs.lemmas.List.Elements.{recursion_from_All}
-use Rattle.std.proofs.lemmas.List.Sums.{sum_by-cons, sum_by-append}
+use Rattle.std.proofs.lemmas.List.Sums.{sum_by-cons}
 use Rattle.std.proofs.lemmas.List.Concat.{flat_map-append}
 use Rattle.gm_base.specs.declared.edge.Edge.{Edge}
 use Rattle.gm_grid.specs.GridBytes.{blocks_of, placed_edges}
@@ -99,26 +99,6 @@ pub length_of_placed : (size : ℕ) (counts : List ℕ) (edges : List Edge) (k :
 length_of_placed size counts edges k whole =
     length_before edges (chunks_of size counts) k
     (recursion_from_All (λ (p : Place). length (base_of edges p) ≡ p.count) (chunks_of size counts) (chunks-have_edges size counts edges whole))
-
-total_rest : (size block first rest more : ℕ) → sum_by count_of (cut_rest size block first rest more) ≡ size * more + rest
-total_rest size block first rest zero = omega arith
-total_rest size block first rest (suc more) =
-    let tail = total_rest size block (first + size) rest more in
-    let product : size * suc more ≡ size + size * more = omega arith in
-    sum_by-cons count_of (record { block = block; first = first; count = size; is_last = false }) (cut_rest size block (first + size) rest more) ∙ omega arith
-
-total_from : (size block first : ℕ) (counts : List ℕ) → sum_by count_of (chunks_from size block first counts) ≡ sum counts
-total_from size block first [] = refl
-total_from size block first (count ∷ counts) =
-    let here = total_rest size block first (count - size * before_last size count) (before_last size count) in
-    let whole = sizes_add_up size count in
-    let rest = total_from size (block + 1) (first + count) counts in
-    let all = sum_by-cons (λ (x : ℕ). x) count counts in
-    sum_by-append count_of (chunks_of_block size block first count) (chunks_from size (block + 1) (first + count) counts) ∙ omega arith
-
--- all chunks have all edges
-pub all_edges : (size : ℕ) (counts : List ℕ) → sum_by count_of (chunks_of size counts) ≡ sum counts
-all_edges size counts = total_from size 0 0 counts
 
 short_rest : (size block first rest more : ℕ) → rest ≤ size → AllByRecursion (λ (p : Place). p.count ≤ size) (cut_rest size block first rest more)
 short_rest size block first rest zero small = (small, tt)

@@ -30,7 +30,7 @@ use Rattle.gm_grid.specs.GridRefusals.{grid_refusal, refusal_by_chunks, is_mispl
 use Rattle.gm_grid.specs.GridRefusalsRules.{refused_by_edges, refusal_by_edges-position, position-append, position-in_block}
 use Rattle.gm_label.specs.declared.chunk.Place.{Place}
 use Rattle.gm_label.specs.Chunks.{chunks_of, base_of}
-use Rattle.gm_label.specs.ChunksRules.{chunks-within, length-chunks_of}
+use Rattle.gm_label.specs.ChunksRules.{chunks-within, chunks-count_edges, length-chunks_of}
 use Rattle.gm_label.specs.Labels.{label_of}
 use Rattle.gm_label.specs.Catalogues.{Catalogue, no_place, place_at, label_at, catalogue_of, unlabelled, with_label}
 use Rattle.gm_label.specs.CataloguesRules.{labelled_up_to-none, labelled_up_to-next, labelled_up_to-all}
@@ -38,7 +38,7 @@ use Rattle.gm_source.specs.Openings.{AreBytes, HasIndex, HasLabelled, IsCatalogu
 use Rattle.gm_source.specs.declared.errors.OpenError.{OpenError}
 use Rattle.gm_source.specs.OpeningsRules.{opens_by-then, opens_by-more, opens_by-served}
 use Rattle.gm_source.proofs.Decoding.{by_block}
-use Rattle.gm_source.proofs.Chunking.{first_of_chunk, placed_by_chunks, length_of_placed, all_edges, short_chunk}
+use Rattle.gm_source.proofs.Chunking.{first_of_chunk, placed_by_chunks, length_of_placed, short_chunk}
 
 abbrev no_pairs : List (ℕ × ℕ)
 no_pairs = []
@@ -176,7 +176,7 @@ pub labelled-small : (size k : ℕ) (bytes : List ℕ) (cat : Catalogue) → Has
     → AreBytes bytes
 labelled-small size k bytes cat sizes past labelled =
     let all : edges_before (chunks_in size bytes) k ≡ sum (counts_in bytes) =
-    ap (sum_by (λ (place : Place). place.count)) (take_all k (chunks_in size bytes) past) ∙ all_edges size (counts_in bytes) in
+    ap (sum_by (λ (place : Place). place.count)) (take_all k (chunks_in size bytes) past) ∙ chunks-count_edges size (counts_in bytes) in
     let end : length bytes ≤ index_end (shape_in bytes) + 12 * edges_before (chunks_in size bytes) k = omega (arith, sizes.0, sizes.1) in
     subst AreBytes (take_all (index_end (shape_in bytes) + 12 * edges_before (chunks_in size bytes) k) bytes end) labelled.small
 

@@ -70,14 +70,14 @@ module _ (bytes : List ℕ) (n parts size c : ℕ) (blocks : List (List Edge)) (
   abbrev cat : Catalogue
   cat = catalogue_of d size counts (edges_of_grid blocks)
 
-  cut : IsCut d counts (edges_of_grid blocks)
+  pub cut : IsCut d counts (edges_of_grid blocks)
   cut = record {
     blocks = length-map blocks (λ edges. length edges) ∙ grid.count;
     whole = sum-lengths blocks;
     in_blocks = blocks-in_blocks d 0 blocks (λ k. All-weaker (FitsBlock d k) (λ e. block_of d e ≡ 0 + k) (λ e fits. (in_block-means d k e fits.place).1 ∙ omega arith) (get_or blocks k []) (grid.places k));
   }
 
-  ends : All (HasEndsBelow n) (edges_of_grid blocks)
+  pub ends : All (HasEndsBelow n) (edges_of_grid blocks)
   ends = all_edges (HasEndsBelow n) blocks (λ k. All-weaker (FitsBlock d k) (HasEndsBelow n) (λ e fits. (in_block-means d k e fits.place).0) (get_or blocks k []) (grid.places k))
 
   base_ends : All (HasEndsBelow n) (base_at cat (edges_of_grid blocks) c)

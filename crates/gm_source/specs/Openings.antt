@@ -1,5 +1,5 @@
 -- What opening a grid answers, and what is known of its file then.
-use Rattle.std.specs.Prelude.{◌≡◌, ◌≢◌, ℕ, min, ◌+◌, ◌*◌, ◌<◌, ◌≤◌, Bool, not, List, [], length, take, map, flat_map, sum_by, slice_get, All, IsTrue, Option, Some, None, IfSome, IsSomeAnd, Result, Ok, Err, IsErrOf}
+use Rattle.std.specs.Prelude.{◌≡◌, ◌≢◌, ℕ, min, ◌+◌, ◌*◌, ◌<◌, ◌≤◌, Bool, not, ◌&&◌, is_none, if◌then◌else◌, List, [], length, take, map, flat_map, sum_by, slice_get, All, IsTrue, Option, Some, None, IfSome, IsSomeAnd, Result, Ok, Err, IsErrOf}
 use Rattle.std.specs.List.{position}
 use Rattle.std.specs.FinMap.{get}
 use Rattle.gm_base.specs.declared.edge.Edge.{Edge}
@@ -144,3 +144,13 @@ reads_before places k = sum_by chunk_reads (take k places)
 -- how many reads opening these chunks takes: the head, the index, and each chunk with edges
 abbrev pub opening_reads : List Place → ℕ
 opening_reads places = 2 + sum_by chunk_reads places
+
+-- whether neither a file's head nor its index is refused, nor its number of chunks: then its chunks are read
+abbrev pub are_chunks_read : ℕ → List ℕ → Bool
+are_chunks_read size bytes =
+    is_none (refusal_by_head (length bytes) (take 16 bytes)) && is_none (refusal_by_index (length bytes) (counts_in bytes))
+    && is_none (refusal_by_chunks size (counts_in bytes))
+
+-- how many reads opening a file takes at most: the head and the index, and each chunk with edges where the chunks are read
+abbrev pub file_reads : ℕ → List ℕ → ℕ
+file_reads size bytes = if are_chunks_read size bytes then opening_reads (chunks_of size (counts_in bytes)) else 2

@@ -40,14 +40,6 @@ pub enum FetchError {
     Memory,
 }
 
-impl From<Memory> for FetchError {
-    ghost from_gives = { λ _ error. error ≡ FetchErrors.Memory };
-
-    fn from(_error: Memory) -> FetchError {
-        FetchError::Memory
-    }
-}
-
 impl From<Trouble> for FetchError {
     ghost from_gives = { λ trouble error. error ≡ fetch_error_of trouble };
 
@@ -56,6 +48,14 @@ impl From<Trouble> for FetchError {
             Trouble::Failed => FetchError::Fault,
             Trouble::Memory => FetchError::Memory,
         }
+    }
+}
+
+impl From<Memory> for FetchError {
+    ghost from_gives = { λ _ error. error ≡ FetchErrors.Memory };
+
+    fn from(_error: Memory) -> FetchError {
+        FetchError::Memory
     }
 }
 
@@ -77,6 +77,7 @@ fn read_chunk<D: Depot>(
     edges: &mut Vec<Edge>,
 ) -> Result<Option<Edge>, Trouble>
     requires { chunk < length cat.now.places }
+    ensures frame { OnlyReads (chunk_reads (place_at cat.now chunk)) (depot_change ⟦<D as Depot>⟧ depot.old depot.new) }
     ensures reads { IfOk result (λ stray. ReadsChunk (D.files depot.old) name.now cat.now chunk edges.new.items stray) }
     ensures told { (bytes : List ℕ) → TellsGrid (D.files depot.old) name.now cat.now bytes
         → IfOk result (λ stray. IsUnchanged bytes cat.now chunk edges.new.items stray) }
@@ -85,7 +86,6 @@ fn read_chunk<D: Depot>(
         → IsErrOf result Trouble.Failed → ⊥ }
     ensures read { (IsErrOf result Trouble.Memory → ⊥)
         → D.reads depot.new ≡ counted_times (chunk_reads (place_at cat.now chunk)) (D.reads depot.old) }
-    ensures frame { OnlyReads (chunk_reads (place_at cat.now chunk)) (depot_change ⟦<D as Depot>⟧ depot.old depot.new) }
 {
     grid_reads_back();
     let place = cat.chunk(chunk);

@@ -1,9 +1,12 @@
 //! Laws of a file and its catalogue.
 
-ghost use Rattle.std.specs.Prelude.{◌≡◌, ℕ, List, length, sum_by, None};
+ghost use Rattle.std.specs.Prelude.{◌≡◌, ◌≤◌, ℕ, List, length, sum_by, None};
+ghost use Rattle.gm_base.specs.declared.limits.TheConstants.{MAX_EDGES};
+ghost use Rattle.gm_base.specs.Dimensions.{AreDimensions};
+ghost use Rattle.gm_base.specs.Graph.{IsGraph};
 ghost use Rattle.gm_grid.specs.GridBytes.{edges_in};
 ghost use Rattle.gm_grid.specs.GridRefusals.{grid_refusal};
-ghost use Rattle.gm_label.specs.Catalogues.{Catalogue};
+ghost use Rattle.gm_label.specs.Catalogues.{Catalogue, IsOver};
 ghost use Rattle.gm_source.specs.Openings.{IsCatalogueOf};
 
 use gm_grid::laws::{grid_reads_back, refused_where_no_grid};
@@ -16,4 +19,15 @@ pub fn catalogued_files_are_grids()
 {
     grid_reads_back();
     refused_where_no_grid();
+}
+
+/// A law: a file's catalogue is over the file's edges. They are a graph of its vertices, and no more than a grid may have.
+pub fn catalogues_are_over_their_edges()
+    ensures over { (bytes : List ℕ) (size : ℕ) (cat : Catalogue) → IsCatalogueOf bytes size cat → IsOver cat (edges_in bytes) }
+    ensures graph { (bytes : List ℕ) (size : ℕ) (cat : Catalogue) → IsCatalogueOf bytes size cat → IsGraph cat.dimensions.n (edges_in bytes) }
+    ensures few { (bytes : List ℕ) (size : ℕ) (cat : Catalogue) → IsCatalogueOf bytes size cat → length (edges_in bytes) ≤ MAX_EDGES }
+    ensures dimensions { (bytes : List ℕ) (size : ℕ) (cat : Catalogue) → IsCatalogueOf bytes size cat
+        → AreDimensions cat.dimensions.n cat.dimensions.parts }
+{
+    grid_reads_back();
 }

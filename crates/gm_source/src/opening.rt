@@ -10,7 +10,7 @@ ghost use Rattle.gm_grid.specs.GridBytes.{counts_in, counts_of_index, index_end,
 ghost use Rattle.gm_grid.specs.GridRefusals.{refusal_by_head, refusal_by_index, refusal_by_chunks};
 ghost use Rattle.gm_label.specs.Chunks.{chunks_of};
 ghost use Rattle.gm_label.specs.Catalogues.{unlabelled};
-ghost use Rattle.gm_source.specs.Openings.{OpensBy, IsTold, HasHead, HasIndex, HasLabelled, IsPlanned, IsRefusedByIndex, IsRefusedByChunks, IsCatalogueOf, opening_reads};
+ghost use Rattle.gm_source.specs.Openings.{OpensBy, IsTold, HasHead, HasIndex, HasLabelled, IsPlanned, IsRefusedByIndex, IsRefusedByChunks, IsCatalogueOf, file_reads, opening_reads};
 
 use crate::OpenError;
 use crate::labelling::label_plan;
@@ -97,31 +97,6 @@ fn check_index(alloc: Global, shape: &Shape, bytes: &[u8], size: u64) -> Result<
     Ok(index)
 }
 
-/// The index of a file of so many bytes, read into this room.
-fn read_index_into<D: Depot>(
-    alloc: Global,
-    depot: &mut D,
-    name: &str,
-    shape: &Shape,
-    size: u64,
-    bytes: &mut [u8],
-) -> Result<Index, OpenError>
-    requires room { length bytes.old ≡ index_size shape.now }
-    requires size { IsTold (D.files depot.old) name.now (λ bytes. length bytes ≡ size) }
-    requires head { IsTold (D.files depot.old) name.now (HasHead shape.now) }
-    ensures index { IfOk result (λ index. IsTold (D.files depot.old) name.now (HasIndex shape.now index)) }
-    ensures blocks { IfOk result (λ index. length index ≡ shape.now.parts * shape.now.parts) }
-    ensures read { OnOk result (D.reads depot.new ≡ counted (D.reads depot.old)) }
-    ensures opens { (chunk_size : ℕ) → OpensBy 1 chunk_size name.now (depot_change ⟦<D as Depot>⟧ depot.old depot.new) result }
-{
-    depot.read_at(name, 16, bytes)?;
-    are_bytes(bytes);
-    match check_index(alloc, shape, bytes, size) {
-        Ok(index) => Ok(index),
-        Err(error) => Err(error.into()),
-    }
-}
-
 /// How many edges each block has, by the index of a file of so many bytes.
 #[tactic(auto, using(crate::specs::OpeningsRules::openings))]
 fn read_counts<D: Depot>(
@@ -139,27 +114,11 @@ fn read_counts<D: Depot>(
     ensures opens { (chunk_size : ℕ) → OpensBy 1 chunk_size name.now (depot_change ⟦<D as Depot>⟧ depot.old depot.new) result }
 {
     let mut bytes = zeros(alloc, index_size(shape))?;
-    read_index_into(alloc, depot, name, shape, size, &mut bytes)
-}
-
-/// The chunks of a grid whose blocks have so many edges, without labels.
-fn plan_chunks(
-    alloc: Global,
-    shape: Shape,
-    counts: &[u64],
-    chunk_size: u32,
-) -> Result<Catalogue, PlanError>
-    requires blocks { length counts.now ≡ shape.parts * shape.parts }
-    requires few { sum counts.now ≤ MAX_EDGES }
-    requires some { 1 ≤ chunk_size }
-    requires short { chunk_size ≤ MAX_CHUNK_SIZE }
-    ensures planned { IfOk result (λ cat. cat ≡ unlabelled shape (chunks_of chunk_size counts.now)) }
-    ensures taken { OnOk result (refusal_by_chunks chunk_size counts.now ≡ None) }
-    ensures refused { IfErr result (λ error. IsRefusedByChunks chunk_size counts.now error) }
-{
-    match Catalogue::plan(alloc, shape, counts, chunk_size) {
-        Ok(cat) => Ok(cat),
-        Err(error) => Err(error),
+    depot.read_at(name, 16, &mut bytes)?;
+    are_bytes(&bytes);
+    match check_index(alloc, shape, &bytes, size) {
+        Ok(index) => Ok(index),
+        Err(error) => Err(error.into()),
     }
 }
 
@@ -170,8 +129,7 @@ fn read_plan<D: Depot>(
     name: &str,
     chunk_size: u32,
 ) -> Result<Catalogue, OpenError>
-    requires some { 1 ≤ chunk_size }
-    requires short { chunk_size ≤ MAX_CHUNK_SIZE }
+    requires { (1 ≤ chunk_size) × (chunk_size ≤ MAX_CHUNK_SIZE) }
     ensures planned { IfOk result (λ cat. IsTold (D.files depot.old) name.now (HasLabelled chunk_size 0 cat)) }
     ensures chunks { IfOk result (IsPlanned chunk_size) }
     ensures read { OnOk result (D.reads depot.new ≡ counted_times 2 (D.reads depot.old)) }
@@ -181,7 +139,7 @@ fn read_plan<D: Depot>(
     let shape = read_shape(depot, name, size)?;
     let index = read_counts(alloc, depot, name, &shape, size)?;
     let _edges = index.edges();
-    match plan_chunks(alloc, shape, index.counts(), chunk_size) {
+    match Catalogue::plan(alloc, shape, index.counts(), chunk_size) {
         Ok(cat) => Ok(cat),
         Err(error) => Err(error.into()),
     }
@@ -204,7 +162,7 @@ pub fn open_grid<D: Depot>(
     ensures opens { OpensBy (2 + MAX_CHUNKS) chunk_size name.now (depot_change ⟦<D as Depot>⟧ depot.old depot.new) result }
     ensures read { IfOk result (λ cat. D.reads depot.new ≡ counted_times (opening_reads cat.places) (D.reads depot.old)) }
     ensures few_reads { IfSome (D.files depot.old) (λ held. IfSome (get held name.now)
-        (λ bytes. D.reads depot.new ≤ D.reads depot.old + opening_reads (chunks_of chunk_size (counts_in bytes)))) }
+        (λ bytes. D.reads depot.new ≤ D.reads depot.old + file_reads chunk_size bytes)) }
 {
     refused_where_no_grid();
     grid_reads_back();

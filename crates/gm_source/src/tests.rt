@@ -7,17 +7,13 @@ ghost use Rattle.gm_label.specs.Catalogues.{unlabelled};
 
 use crate::{FetchError, Found, OpenError, fetch, open_grid};
 use gm_base::{Edge, Shape};
+use gm_fakes::{Call, DriftDepot, MemDepot};
 use gm_grid::GridError;
+use gm_grid::examples::PATH_BYTES;
 use gm_label::{Catalogue, Label};
-use gm_outside::{Call, Depot, DriftDepot, MemDepot};
+use gm_outside::Depot;
 use std::alloc::Global;
 use std::test::Fail;
-
-/// A path over four vertices with a shortcut, in two ranges.
-const PATH_FILE: [u8; 96] = *b"GGRID001\x04\0\0\0\x02\0\0\0\
-    \x01\0\0\0\0\0\0\0\x02\0\0\0\0\0\0\0\0\0\0\0\0\0\0\0\x01\0\0\0\0\0\0\0\
-    \0\0\0\0\x01\0\0\0\x01\0\0\0\x01\0\0\0\x02\0\0\0\x01\0\0\0\
-    \0\0\0\0\x02\0\0\0\x05\0\0\0\x02\0\0\0\x03\0\0\0\x01\0\0\0";
 
 fn edge(from: u32, to: u32, weight: u32) -> Edge {
     Edge { from, to, weight }
@@ -47,7 +43,7 @@ fn path_depot(alloc: Global, fails: &[(Call, u64)]) -> Result<MemDepot, Fail> {
     let mut failing = Vec::new(alloc);
     failing.extend_from_slice(fails)?;
     let mut depot = MemDepot::new(alloc, failing);
-    depot.put("a.grid", &PATH_FILE)?;
+    depot.put("a.grid", &PATH_BYTES)?;
     Ok(depot)
 }
 
@@ -193,7 +189,7 @@ fn a_grid_is_opened(rt: HostRuntime) -> Result<(), Fail> {
 #[test]
 fn a_grid_is_missing_or_refused(rt: HostRuntime) -> Result<(), Fail> {
     let mut depot = path_depot(rt.alloc(), &[(Call::Read, 4)])?;
-    depot.put("cut", &PATH_FILE[..95])?;
+    depot.put("cut", &PATH_BYTES[..95])?;
     let missing = open_grid(rt.alloc(), &mut depot, "b.grid", 1).err();
     assert_eq!(rt; missing, Some(OpenError::Missing));
     let error = GridError::BadSize {

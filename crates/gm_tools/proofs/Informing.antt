@@ -1,17 +1,14 @@
 -- What follows of a grid that was opened.
-use Rattle.std.proofs.Common.{◌≡◌, ℕ, List, length, Option, Some, None, Ok, Err, refl, ap, ◌∙◌, inr}
+use Rattle.std.proofs.Common.{◌≡◌, ℕ, List, length, Option, Some, None, Ok, Err, refl, ◌∙◌, inr}
 use Rattle.std.specs.Prelude.{IsSomeAnd, sum_by}
-use Rattle.std.specs.Option.{option_map}
 use Rattle.std.specs.FinMap.{get}
 use Rattle.gm_outside.specs.declared.traits.Trouble.{Trouble}
 use Rattle.gm_outside.specs.declared.traits.Trouble.TheVariants as troubles
 use Rattle.gm_outside.specs.Files.{Files}
 use Rattle.gm_outside.specs.Frames.{DepotChange, SinkChange, Writes}
 use Rattle.gm_grid.specs.GridBytes.{edges_in}
-use Rattle.gm_grid.specs.GridRefusals.{grid_refusal}
 use Rattle.gm_label.specs.Catalogues.{Catalogue}
 use Rattle.gm_source.specs.Openings.{IsTold, IsCatalogueOf}
-use Rattle.gm_commands.specs.declared.failure.Refusal.TheVariants.{Grid}
 use Rattle.gm_commands.specs.declared.failure.Failure.TheVariants.{OutputFailed}
 use Rattle.gm_commands.specs.Failures.{failed_by}
 use Rattle.gm_commands.specs.Commands.{InfoCommand}
@@ -19,27 +16,16 @@ use Rattle.gm_commands.specs.Readings.{AreTaken, DepotServed}
 use Rattle.gm_tools.specs.Infos.{info_reading, IsOfGrid, InfoHandles, text_of_catalogue}
 
 -- what a law says of files that have a catalogue
-abbrev pub Lawful : Catalogue → ℕ → Type 0
-Lawful cat size = (bytes : List ℕ) → IsCatalogueOf bytes size cat → (grid_refusal size bytes ≡ None) × (sum_by (λ place. place.count) cat.places ≡ length (edges_in bytes))
+abbrev pub Counts : Catalogue → ℕ → Type 0
+Counts cat size = (bytes : List ℕ) → IsCatalogueOf bytes size cat → sum_by (λ place. place.count) cat.places ≡ length (edges_in bytes)
 
-there : {P : List ℕ → Type 0} (found : Option (List ℕ)) → IsSomeAnd found P → (bytes : List ℕ) × (found ≡ Some bytes) × P bytes
-there None told = absurd told
-there (Some bytes) told = (bytes, refl, told)
-
-pub taken : (files : Option Files) (command : InfoCommand) (cat : Catalogue) → Lawful cat command.chunk
-    → IsTold files command.grid (λ bytes. IsCatalogueOf bytes command.chunk cat) → AreTaken (info_reading command) files
-taken None command cat law told = tt
-taken (Some held) command cat law told =
-    let here = there (get held command.grid) told in
-    rw here.1 (ap (option_map Grid) (law here.0 here.2).0)
-
-of_found : (found : Option (List ℕ)) (size edges : ℕ) (cat : Catalogue) → edges ≡ sum_by (λ place. place.count) cat.places → Lawful cat size
+of_found : (found : Option (List ℕ)) (size edges : ℕ) (cat : Catalogue) → edges ≡ sum_by (λ place. place.count) cat.places → Counts cat size
     → IsSomeAnd found (λ bytes. IsCatalogueOf bytes size cat) → IsSomeAnd found (λ bytes. IsCatalogueOf bytes size cat × (edges ≡ length (edges_in bytes)))
 of_found None size edges cat is law told = told
-of_found (Some bytes) size edges cat is law told = (told, is ∙ (law bytes told).1)
+of_found (Some bytes) size edges cat is law told = (told, is ∙ law bytes told)
 
 pub of_grid : (files : Option Files) (command : InfoCommand) (edges : ℕ) (cat : Catalogue) → edges ≡ sum_by (λ place. place.count) cat.places
-    → Lawful cat command.chunk → IsTold files command.grid (λ bytes. IsCatalogueOf bytes command.chunk cat) → IsOfGrid command files cat edges
+    → Counts cat command.chunk → IsTold files command.grid (λ bytes. IsCatalogueOf bytes command.chunk cat) → IsOfGrid command files cat edges
 of_grid None command edges cat is law told = tt
 of_grid (Some held) command edges cat is law told = of_found (get held command.grid) command.chunk edges cat is law told
 

@@ -1,5 +1,5 @@
 -- How a build reads its file of edges: piece by piece, up to the first refused line.
-use Rattle.std.specs.Prelude.{◌≡◌, ℕ, ◌+◌, ◌-◌, ◌*◌, ◌≤◌, List, length, take, Option, Some, None, Result, Ok, Err, IfSome, IsSomeAnd, IsOk, MatchOption}
+use Rattle.std.specs.Prelude.{◌≡◌, false, ℕ, ◌+◌, ◌-◌, ◌*◌, ◌≤◌, List, length, take, Option, Some, None, Result, Ok, Err, IfSome, IsSomeAnd, IsOk, MatchOption}
 use Rattle.std.specs.Int.{div_ceil}
 use Rattle.std.specs.FinMap.{get}
 use Rattle.gm_base.specs.declared.edge.Edge.{Edge}
@@ -39,6 +39,7 @@ edges_reading n name = record {
   reads = is_operand Edges;
   refusal = λ files. edges_refusal n (get files name);
   refusal_before = λ operand number files. refusal_before_piece n number (get files name);
+  fetches = false;
 }
 
 -- the file is read by at most as many reads as it has pieces, up to and with the one in which its first refused line ends

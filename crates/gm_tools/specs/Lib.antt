@@ -1,4 +1,5 @@
 pub mod EdgeReadings
 pub mod Builds
+pub mod Grids
 pub mod Infos
 pub mod Tools

@@ -7,7 +7,8 @@ use Rattle.gm_commands.specs.Readings.{Reading, no_reading}
 use Rattle.gm_commands.specs.Endings.{CommandCall, HasSucceeded, HasFailed}
 use Rattle.gm_tools.specs.EdgeReadings.{ReadsInPieces}
 use Rattle.gm_tools.specs.Builds.{build_reading, BuildPerforms, BuildLeaves, KeepsOthers}
-use Rattle.gm_tools.specs.Infos.{info_reading, InfoPerforms, InfoLeaves, ReadsChunks}
+use Rattle.gm_tools.specs.Grids.{OpensFew}
+use Rattle.gm_tools.specs.Infos.{info_reading, InfoPerforms, InfoLeaves}
 
 -- the command, where it is one of the tools'
 abbrev pub tool_in : Option Command → Option Command
@@ -26,7 +27,7 @@ tool_reading (info command) = info_reading command
 abbrev pub ToolReads : Command → DepotChange → Type 0
 ToolReads (run command) depot = ⊥
 ToolReads (build command) depot = ReadsInPieces command.shape.n command.edges depot
-ToolReads (info command) depot = ReadsChunks command depot
+ToolReads (info command) depot = OpensFew command.grid command.chunk depot
 
 -- what a tool does that succeeds
 abbrev pub ToolPerforms : Command → DepotChange → SinkChange → ℕ → Type 0

@@ -4,38 +4,16 @@ ghost use Rattle.std.specs.Prelude.{◌≡◌, ◌≤◌, sum_by};
 ghost use Rattle.gm_base.specs.declared.limits.TheConstants.{MAX_CHUNK_SIZE};
 ghost use Rattle.gm_outside.specs.Calls.{depot_change, sink_change};
 ghost use Rattle.gm_commands.specs.Commands.{info_said};
-ghost use Rattle.gm_tools.specs.Infos.{InfoHandles, ReadsChunks, info_text, text_of_catalogue, opening_failure};
+ghost use Rattle.gm_tools.specs.Grids.{OpensFew};
+ghost use Rattle.gm_tools.specs.Infos.{InfoHandles, info_text, text_of_catalogue};
 
-use gm_commands::{Failure, InfoCommand, Operand, Refusal};
+use crate::grid_opening::load_grid;
+use gm_commands::{Failure, InfoCommand};
 use gm_label::Catalogue;
 use gm_output::Line;
 use gm_outside::{Depot, Sink};
 use gm_source::laws::catalogued_files_are_grids;
-use gm_source::{OpenError, open_grid};
 use std::alloc::Global;
-
-/// The failure that an opening's error is.
-fn failure_of_opening(error: OpenError) -> Failure
-    ensures { result ≡ opening_failure error }
-{
-    match error {
-        OpenError::Missing => Failure::Refused(Refusal::Missing(Operand::Grid)),
-        OpenError::Grid(error) => Failure::Refused(Refusal::Grid(error)),
-        OpenError::Fault => Failure::ReadFailed(Operand::Grid),
-        OpenError::Memory => Failure::OutOfMemory,
-    }
-}
-
-/// How many edges the chunks have.
-fn count_edges(cat: &Catalogue) -> u64
-    ensures { result ≡ sum_by (λ place. place.count) cat.now.places }
-{
-    let mut edges = 0;
-    for chunk in 0..cat.chunks() {
-        edges += u64::from(cat.chunk(chunk).length);
-    }
-    edges
-}
 
 /// The output for these numbers.
 #[tactic(auto, unfolding(crate::specs::Infos::info_text))]
@@ -57,6 +35,17 @@ fn info_lines(cat: &Catalogue, edges: u64) -> Line
     line
 }
 
+/// How many edges the chunks have.
+fn count_edges(cat: &Catalogue) -> u64
+    ensures { result ≡ sum_by (λ place. place.count) cat.now.places }
+{
+    let mut edges = 0;
+    for chunk in 0..cat.chunks() {
+        edges += u64::from(cat.chunk(chunk).length);
+    }
+    edges
+}
+
 /// Opens the command's grid chunk by chunk, and writes its numbers. The answer is the status after it.
 pub fn run_info<D: Depot, K: Sink>(
     alloc: Global,
@@ -67,15 +56,11 @@ pub fn run_info<D: Depot, K: Sink>(
     requires some { 1 ≤ command.now.chunk }
     requires short { command.now.chunk ≤ MAX_CHUNK_SIZE }
     ensures handles { InfoHandles (info_said command.now) (depot_change ⟦<D as Depot>⟧ depot.old depot.new) (sink_change ⟦<K as Sink>⟧ out.old out.new) result }
-    ensures chunks { ReadsChunks (info_said command.now) (depot_change ⟦<D as Depot>⟧ depot.old depot.new) }
+    ensures chunks { OpensFew command.now.grid.now command.now.chunk (depot_change ⟦<D as Depot>⟧ depot.old depot.new) }
     ensures out_faults { K.faults out.old ≤ K.faults out.new }
 {
     catalogued_files_are_grids();
-    let opened = open_grid(alloc, depot, command.grid, command.chunk);
-    let cat = match opened {
-        Ok(cat) => cat,
-        Err(error) => return Err(failure_of_opening(error)),
-    };
+    let cat = load_grid(alloc, depot, command.grid, command.chunk)?;
     let output = info_lines(&cat, count_edges(&cat));
     match out.write(output.as_slice()) {
         Ok(()) => Ok(0),

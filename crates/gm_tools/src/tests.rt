@@ -2,7 +2,7 @@
 
 use crate::tool;
 use gm_base::Words;
-use gm_outside::{Call, MemDepot, MemSink};
+use gm_fakes::{Call, MemDepot, MemSink};
 use std::test::Fail;
 
 /// Four vertices in two ranges: 0 to 1, 1 to 2, 0 to 2 of weight 5, 2 to 3.

@@ -1,23 +1,18 @@
 -- How a call of the program ends.
-use Rattle.std.specs.Prelude.{◌≡◌, ◌≤◌, ℕ, ◌⊎◌, Result}
+use Rattle.std.specs.Prelude.{◌≡◌, ◌≤◌, ℕ, Result}
 use Rattle.gm_outside.specs.Frames.{DepotChange, SinkChange, OnlyReads}
 use Rattle.gm_outside.specs.Causes.{counted_times}
 use Rattle.gm_commands.specs.declared.failure.Failure.{Failure}
-use Rattle.gm_commands.specs.declared.failure.Failure.TheVariants.{Refused, ReadFailed, WriteFailed, OutputFailed, OutOfMemory}
 use Rattle.gm_commands.specs.Commands.{Command, run, build, info, RunCommand}
 use Rattle.gm_commands.specs.Readings.{Reading}
-use Rattle.gm_commands.specs.Endings.{CommandCall, Handles, WritesNothing, HasSucceeded, HasFailed, IsComplete}
+use Rattle.gm_commands.specs.Endings.{CommandCall, Handles, LeavesPart, HasSucceeded, HasFailed, IsComplete}
 use Rattle.gm_tools.specs.Tools.{tool_reading, ToolReads, ToolPerforms, ToolLeaves, ToolKeepsOthers}
 use Rattle.gm_top.specs.RunReadings.{run_reading}
 use Rattle.gm_top.specs.RunReports.{Reports, ReportsPartly}
 
 -- what a run leaves on standard output after this failure
 abbrev pub RunLeaves : RunCommand → DepotChange → SinkChange → Failure → Type 0
-RunLeaves command depot out (Refused refusal) = WritesNothing depot out
-RunLeaves command depot out (ReadFailed operand) = WritesNothing depot out
-RunLeaves command depot out (WriteFailed operand) = ⊥
-RunLeaves command depot out OutputFailed = ReportsPartly command depot out
-RunLeaves command depot out OutOfMemory = WritesNothing depot out ⊎ ReportsPartly command depot out
+RunLeaves command depot out failure = LeavesPart (ReportsPartly command depot out) depot out failure
 
 -- how a command reads its files
 abbrev pub reading_of : Command → Reading
@@ -31,14 +26,14 @@ Performs (run command) depot out status = Reports command depot out status
 Performs (build command) depot out status = ToolPerforms (build command) depot out status
 Performs (info command) depot out status = ToolPerforms (info command) depot out status
 
-abbrev pub Succeeds : Command → CommandCall → Type 0
-Succeeds command call = HasSucceeded reading_of Performs command call
-
 -- what a command leaves of the files and of standard output after this failure
 abbrev pub Leaves : Command → DepotChange → SinkChange → Failure → Type 0
 Leaves (run command) depot out failure = RunLeaves command depot out failure
 Leaves (build command) depot out failure = ToolLeaves (build command) depot out failure
 Leaves (info command) depot out failure = ToolLeaves (info command) depot out failure
+
+abbrev pub Succeeds : Command → CommandCall → Type 0
+Succeeds command call = HasSucceeded reading_of Performs command call
 
 abbrev pub Fails : Command → CommandCall → Type 0
 Fails command call = HasFailed reading_of Leaves command call

@@ -1,7 +1,8 @@
 //! The whole path over files in memory: texts, statuses, and each call failing in turn.
 use crate::{graphm, program};
 use gm_base::Words;
-use gm_outside::{Call, Depot, MemDepot, MemSink, NotingDepot, OpenGate};
+use gm_fakes::{Call, MemDepot, MemSink, NotingDepot};
+use gm_outside::{Depot, OpenGate};
 use std::env::Args;
 use std::io;
 use std::process::Abort;

@@ -14,7 +14,3 @@ returns-clause-size c = refl
 pub returns-clause-shape : goal.returns-clause-shape
 unfolding digits text_of
 returns-clause-shape c = refl
-
-pub returns-clause-chunks : goal.returns-clause-chunks
-unfolding digits text_of
-returns-clause-chunks c = refl

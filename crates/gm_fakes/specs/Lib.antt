@@ -1,0 +1,3 @@
+pub mod FileList
+pub mod Memory
+pub mod Notes
