@@ -1,5 +1,6 @@
 pub mod Calls
 pub mod Causes
+pub mod CausesRules
 pub mod Changes
 pub mod ChangesRules
 pub mod Files

@@ -276,6 +276,24 @@ mod tests {
     }
 
     #[test]
+    fn a_failed_read_is_not_tried_again(rt: HostRuntime) -> Result<(), Fail> {
+        fs::write(&rt, "again.bin", b"abc".as_slice())?;
+        let mut depot = FileDepot::new(rt.clone()?);
+        let mut into = [0u8; 4];
+        depot.read_at("again.bin", 0, &mut into[..3])?;
+        fs::remove_file(&rt, "again.bin")?;
+        fs::write(&rt, "again.bin", b"defg".as_slice())?;
+        let answer = depot.read_at("again.bin", 0, &mut into);
+        assert_eq!(rt; answer, Err(Trouble::Failed));
+        depot.read_at("again.bin", 0, &mut into)?;
+        assert_eq!(rt; into, *b"defg");
+        assert_eq!(rt; depot.reads, 3);
+        assert_eq!(rt; depot.faults, 1);
+        fs::remove_file(&rt, "again.bin")?;
+        Ok(())
+    }
+
+    #[test]
     fn good_calls_are_no_faults(rt: HostRuntime) -> Result<(), Fail> {
         let mut depot = FileDepot::new(rt.clone()?);
         depot.create("good.bin")?;

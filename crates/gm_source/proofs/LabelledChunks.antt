@@ -10,7 +10,8 @@ use Rattle.std.proofs.lemmas.List.Sums.{sum_by-cons, sum_by-append, sum_by-take-
 use Rattle.std.proofs.lemmas.List.Concat.{flat_map-append}
 use Rattle.gm_outside.specs.declared.traits.Depot as Depot
 use Rattle.gm_outside.specs.Calls.{depot_change}
-use Rattle.gm_outside.specs.Causes.{counted, counted_times}
+use Rattle.gm_outside.specs.Causes.{counted_times}
+use Rattle.gm_outside.specs.CausesRules.{counted_times-add}
 use Rattle.gm_outside.specs.Files.{Files}
 use Rattle.gm_outside.specs.Frames.{OnlyReads}
 use Rattle.gm_outside.specs.FramesRules.{only_reads-none, only_reads-then}
@@ -34,8 +35,9 @@ use Rattle.gm_label.specs.ChunksRules.{chunks-within, chunks-count_edges, length
 use Rattle.gm_label.specs.Labels.{label_of}
 use Rattle.gm_label.specs.Catalogues.{Catalogue, no_place, place_at, label_at, catalogue_of, unlabelled, with_label}
 use Rattle.gm_label.specs.CataloguesRules.{labelled_up_to-none, labelled_up_to-next, labelled_up_to-all}
-use Rattle.gm_source.specs.Openings.{AreBytes, HasIndex, HasLabelled, IsCatalogueOf, IsTold, IsSameCut, IsSetAt, IsFreshFrom, IsPlanned, OpensBy, Decodes, placed_of, edges_before, chunk_reads, reads_before}
+use Rattle.gm_source.specs.Openings.{AreBytes, HasIndex, HasLabelled, IsCatalogueOf, IsTold, IsBlock, IsSameCut, IsSetAt, IsFreshFrom, IsPlanned, OpensBy, Decodes, placed_of, edges_before, chunk_reads, reads_before}
 use Rattle.gm_source.specs.declared.errors.OpenError.{OpenError}
+use Rattle.gm_source.specs.declared.labelling.Block.{Block}
 use Rattle.gm_source.specs.OpeningsRules.{opens_by-then, opens_by-more, opens_by-served}
 use Rattle.gm_source.proofs.Decoding.{by_block}
 use Rattle.gm_source.proofs.Chunking.{first_of_chunk, placed_by_chunks, length_of_placed, short_chunk}
@@ -271,7 +273,8 @@ chunk-in_range size k edges_at cat bytes at within sizes labelled =
     omega (arith, sizes.0, sizes.1)
 
 -- So many chunks were labelled by these calls.
-pub record Labels {D : Type 0} (g : Depot.Ghosts D) (old new : D) (name : List ℕ) (room buffer : List ℕ) (cat now : Catalogue) (k : ℕ) : Type 0 where
+pub record Labels {D : Type 0} (g : Depot.Ghosts D) (old new : D) (name : List ℕ) (room buffer : List ℕ) (cat now : Catalogue) (block : Block) (k : ℕ) : Type 0 where
+  pub is_block : IsBlock now.dimensions block
   pub cut : IsSameCut cat now
   pub fresh : IsFreshFrom k now
   pub room_kept : length buffer ≡ length room
@@ -280,9 +283,10 @@ pub record Labels {D : Type 0} (g : Depot.Ghosts D) (old new : D) (name : List �
   pub read : g.reads new ≡ counted_times (reads_before cat.places k) (g.reads old)
   pub labelled : (size : ℕ) → IsTold (g.files old) name (HasLabelled size 0 cat) → IsTold (g.files old) name (HasLabelled size k now)
 
-pub labels-none : {D : Type 0} (g : Depot.Ghosts D) (depot : D) (name room : List ℕ) (cat : Catalogue) → IsFreshFrom 0 cat
-    → Labels g depot depot name room room cat cat 0
-labels-none g depot name room cat fresh = record {
+pub labels-none : {D : Type 0} (g : Depot.Ghosts D) (depot : D) (name room : List ℕ) (cat : Catalogue) (block : Block) → IsFreshFrom 0 cat → IsBlock cat.dimensions block
+    → Labels g depot depot name room room cat cat block 0
+labels-none g depot name room cat block fresh is = record {
+  is_block = is;
   cut = (refl, refl);
   fresh = fresh;
   room_kept = refl;
@@ -298,28 +302,23 @@ reads_before-next places k within =
     let last = sum_by-cons chunk_reads (get_or places k no_place) [] in
     ap (sum_by chunk_reads) (take_more places k no_place within) ∙ sum_by-append chunk_reads (take k places) (get_or places k no_place ∷ []) ∙ omega arith
 
-pub counted_times-add : (first second count : ℕ) → counted_times (first + second) count ≡ counted_times second (counted_times first count)
-counted_times-add first zero count = ap (λ (n : ℕ). counted_times n count) (omega arith)
-counted_times-add first (suc second) count =
-    let next : first + suc second ≡ suc (first + second) = omega arith in
-    ap (λ (n : ℕ). counted_times n count) next ∙ ap counted (counted_times-add first second count)
-
 fresh-next : (k : ℕ) (cat next : Catalogue) → IsSetAt k cat next → IsFreshFrom k cat → IsFreshFrom (k + 1) next
 fresh-next k cat next set fresh c behind = set c (λ same. absurd (omega (arith, ap (λ (n : ℕ). n) same))) ∙ fresh c (omega arith)
 
 -- one more was
-pub labels-next : {D : Type 0} (g : Depot.Ghosts D) (old mid new : D) (name room buffer buffer_now : List ℕ) (cat now next : Catalogue) (k : ℕ) → k < length cat.places
-    → Labels g old mid name room buffer cat now k
+pub labels-next : {D : Type 0} (g : Depot.Ghosts D) (old mid new : D) (name room buffer buffer_now : List ℕ) (cat now next : Catalogue) (block next_block : Block) (k : ℕ) → k < length cat.places
+    → Labels g old mid name room buffer cat now block k → IsBlock now.dimensions next_block
     → IsSameCut now next → IsSetAt k now next → length buffer_now ≡ length buffer
     → OnlyReads (chunk_reads (place_at now k)) (depot_change g mid new) → g.faults new ≡ g.faults mid
     → g.reads new ≡ counted_times (chunk_reads (place_at now k)) (g.reads mid)
     → ((size : ℕ) → IsTold (g.files mid) name (HasLabelled size k now) → IsTold (g.files mid) name (HasLabelled size (k + 1) next))
-    → Labels g old new name room buffer_now cat next (k + 1)
-labels-next g old mid new name room buffer buffer_now cat now next k within a cut set long frame served read labelled =
+    → Labels g old new name room buffer_now cat next next_block (k + 1)
+labels-next g old mid new name room buffer buffer_now cat now next block next_block k within a is cut set long frame served read labelled =
     let place : place_at now k ≡ get_or cat.places k no_place = ap (λ (ps : List Place). get_or ps k no_place) a.cut.1 in
     let more : reads_before cat.places k + chunk_reads (place_at now k) ≡ reads_before cat.places (k + 1) =
     ap (λ (p : Place). reads_before cat.places k + chunk_reads p) place ∙ sym (reads_before-next cat.places k within) in
     record {
+      is_block = subst (λ (d : Dimensions). IsBlock d next_block) (sym cut.0) is;
       cut = (cut.0 ∙ a.cut.0, cut.1 ∙ a.cut.1);
       fresh = fresh-next k now next set a.fresh;
       room_kept = long ∙ a.room_kept;
@@ -337,11 +336,11 @@ labels-next g old mid new name room buffer buffer_now cat now next k within a cu
     }
 
 -- a chunk gave up behind others
-pub labels-refused : {D X : Type 0} (g : Depot.Ghosts D) (old mid new : D) (size : ℕ) (name room buffer : List ℕ) (cat now : Catalogue) (k : ℕ)
-    (result : Result X OpenError) → k < length cat.places → Labels g old mid name room buffer cat now k → IsTold (g.files old) name (HasLabelled size 0 cat)
+pub labels-refused : {D X : Type 0} (g : Depot.Ghosts D) (old mid new : D) (size : ℕ) (name room buffer : List ℕ) (cat now : Catalogue) (block : Block) (k : ℕ)
+    (result : Result X OpenError) → k < length cat.places → Labels g old mid name room buffer cat now block k → IsTold (g.files old) name (HasLabelled size 0 cat)
     → ((told : IsTold (g.files mid) name (HasLabelled size k now)) → OpensBy (chunk_reads (place_at now k)) size name (depot_change g mid new) result)
     → OpensBy (sum_by chunk_reads cat.places) size name (depot_change g old new) result
-labels-refused g old mid new size name room buffer cat now k result within a told opens =
+labels-refused g old mid new size name room buffer cat now block k result within a told opens =
     let place : place_at now k ≡ get_or cat.places k no_place = ap (λ (ps : List Place). get_or ps k no_place) a.cut.1 in
     let more : reads_before cat.places k + chunk_reads (place_at now k) ≡ reads_before cat.places (k + 1) =
     ap (λ (p : Place). reads_before cat.places k + chunk_reads p) place ∙ sym (reads_before-next cat.places k within) in

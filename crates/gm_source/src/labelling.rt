@@ -1,16 +1,16 @@
 //! Labelling the chunks of a grid that is opened.
 
 ghost use Rattle.std.specs.Prelude.{◌≡◌, ◌+◌, ◌*◌, ◌<◌, ◌≤◌, ℕ, [], length, All, OnOk, OnErr, sum_by};
-ghost use Rattle.gm_base.specs.declared.limits.TheConstants.{MAX_CHUNK_SIZE, MAX_PARTS};
 ghost use Rattle.gm_base.specs.Dimensions.{block_of};
 ghost use Rattle.gm_base.specs.Graph.{HasEndsBelow};
+ghost use Rattle.gm_base.specs.declared.limits.TheConstants.{MAX_CHUNK_SIZE, MAX_PARTS};
 ghost use Rattle.gm_outside.specs.Calls.{depot_change};
 ghost use Rattle.gm_outside.specs.Causes.{counted_times};
 ghost use Rattle.gm_outside.specs.Frames.{OnlyReads};
 ghost use Rattle.gm_grid.specs.GridBytes.{index_end};
-ghost use Rattle.gm_label.specs.Labels.{label_of};
 ghost use Rattle.gm_label.specs.Catalogues.{place_at, label_at, with_label};
-ghost use Rattle.gm_source.specs.Openings.{OpensBy, IsTold, HasLabelled, IsSameCut, IsSetAt, IsFreshFrom, IsPlanned, chunk_reads};
+ghost use Rattle.gm_label.specs.Labels.{label_of};
+ghost use Rattle.gm_source.specs.Openings.{OpensBy, IsTold, HasLabelled, IsBlock, IsSameCut, IsSetAt, IsFreshFrom, IsPlanned, chunk_reads};
 
 use crate::OpenError;
 use crate::reading::{read_edges, zeros};
@@ -21,25 +21,64 @@ use gm_label::{Catalogue, SourceCounts};
 use gm_outside::Depot;
 use std::alloc::Global;
 
+/// A block of the grid, with what its chunks' edges are tested and counted by.
+#[derive(Clone, Copy)]
+struct Block {
+    number: u32,
+    ranges: BlockRanges,
+    first_source: u32,
+    end_source: u32,
+}
+
+impl Block {
+    /// The block of this number.
+    fn of(cat: &Catalogue, number: u32) -> Block
+        requires { number < cat.now.dimensions.parts * cat.now.dimensions.parts }
+        ensures is { IsBlock cat.now.dimensions result }
+        ensures number { result.number ≡ number }
+    {
+        Block {
+            number,
+            ranges: BlockRanges::of(cat.shape(), number),
+            first_source: cat.first_source(number),
+            end_source: cat.end_source(number),
+        }
+    }
+
+    /// This block where it has this number, else the one that has it.
+    fn moved_to(self, cat: &Catalogue, number: u32) -> Block
+        requires is { IsBlock cat.now.dimensions self }
+        requires within { number < cat.now.dimensions.parts * cat.now.dimensions.parts }
+        ensures is { IsBlock cat.now.dimensions result }
+        ensures number { result.number ≡ number }
+    {
+        if self.number == number {
+            return self;
+        }
+        Block::of(cat, number)
+    }
+}
+
 /// Gives a chunk the label of its edges.
 #[tactic(auto, using(gm_label::specs::CataloguesRules::labelling))]
 fn set_label_of(
     cat: &mut Catalogue,
+    block: &Block,
     chunk: u32,
     edges: &[Edge],
     counts: &mut SourceCounts,
 ) -> Result<(), Memory>
     requires within { chunk < length cat.old.places }
+    requires block { IsBlock cat.old.dimensions block.now }
+    requires number { block.now.number ≡ (place_at cat.old chunk).block }
     requires fresh { label_at cat.old chunk ≡ [] }
     requires count { length edges.now ≡ (place_at cat.old chunk).count }
     requires placed { All (λ e. HasEndsBelow cat.old.dimensions.n e × (block_of cat.old.dimensions e ≡ (place_at cat.old chunk).block)) edges.now }
     ensures ok { OnOk result (cat.new ≡ with_label cat.old chunk (label_of edges.now)) }
     ensures err { OnErr result (cat.new ≡ cat.old) }
 {
-    let _vertices = cat.shape().n();
-    let block = cat.chunk(chunk).block;
-    let (first, end) = (cat.first_source(block), cat.end_source(block));
-    counts.count(first, end, edges)?;
+    let (_vertices, _length) = (cat.shape().n(), cat.chunk(chunk).length);
+    counts.count(block.first_source, block.end_source, edges)?;
     cat.set_label(chunk, counts)
 }
 
@@ -48,6 +87,7 @@ fn label_chunk<D: Depot>(
     depot: &mut D,
     name: &str,
     edges_at: u64,
+    block: &Block,
     chunk: u32,
     buffer: &mut [u8],
     edges: &mut Vec<Edge>,
@@ -55,6 +95,8 @@ fn label_chunk<D: Depot>(
     cat: &mut Catalogue,
 ) -> Result<(), OpenError>
     requires within { chunk < length cat.old.places }
+    requires block { IsBlock cat.old.dimensions block.now }
+    requires number { block.now.number ≡ (place_at cat.old chunk).block }
     requires fresh { label_at cat.old chunk ≡ [] }
     requires end { edges_at ≡ index_end cat.old.dimensions }
     requires near { edges_at ≤ 16 + 8 * (MAX_PARTS * MAX_PARTS) }
@@ -71,11 +113,10 @@ fn label_chunk<D: Depot>(
     ensures read { OnOk result (D.reads depot.new ≡ counted_times (chunk_reads (place_at cat.old chunk)) (D.reads depot.old)) }
 {
     let place = cat.chunk(chunk);
-    let ranges = BlockRanges::of(cat.shape(), place.block);
     let here = &mut buffer[..12 * place.length as usize];
     let pos = edges_at + 12 * place.first;
     grid_by_parts();
-    let stray = match read_edges(depot, name, pos, &ranges, here, edges) {
+    let stray = match read_edges(depot, name, pos, &block.ranges, here, edges) {
         Ok(stray) => stray,
         Err(trouble) => return Err(trouble.into()),
     };
@@ -84,11 +125,11 @@ fn label_chunk<D: Depot>(
             index: place.first + edges.len() as u64,
         }));
     }
-    set_label_of(cat, chunk, edges, counts)?;
+    set_label_of(cat, block, chunk, edges, counts)?;
     Ok(())
 }
 
-/// Labels the chunks of a catalogue, one after the other, each read into this room.
+/// Labels the chunks of a catalogue, one after the other, each read into this room. What a block costs is worked out once for all its chunks.
 pub(crate) fn label_chunks<D: Depot>(
     depot: &mut D,
     name: &str,
@@ -109,8 +150,13 @@ pub(crate) fn label_chunks<D: Depot>(
         → OpensBy (sum_by chunk_reads cat.old.places) size name.now (depot_change ⟦<D as Depot>⟧ depot.old depot.new) result }
     ensures read { OnOk result (D.reads depot.new ≡ counted_times (sum_by chunk_reads cat.old.places) (D.reads depot.old)) }
 {
+    let _vertices = cat.shape().n();
+    let mut block = Block::of(cat, 0);
     for chunk in 0..cat.chunks() {
-        label_chunk(depot, name, edges_at, chunk, buffer, edges, counts, cat)?;
+        block = block.moved_to(cat, cat.chunk(chunk).block);
+        label_chunk(
+            depot, name, edges_at, &block, chunk, buffer, edges, counts, cat,
+        )?;
     }
     Ok(())
 }

@@ -129,6 +129,50 @@ fn each_call_fails_in_turn(rt: HostRuntime) -> Result<(), Fail> {
     Ok(())
 }
 
+/// Words that are refused, the text, the first read that isn't made of it, the status and the line.
+const REFUSED: [(&[&str], &[u8], u64, u8, &[u8]); 3] = [
+    (
+        &WORDS,
+        b"0 1\n1 x\n",
+        2,
+        4,
+        b"graphm: e.txt: line 2: not an edge\n",
+    ),
+    (
+        &WORDS,
+        b"0 1\n0 4",
+        2,
+        4,
+        b"graphm: e.txt: line 2: no such vertex\n",
+    ),
+    (
+        &["build", "b.txt", "a.grid", "4", "2"],
+        LIST,
+        1,
+        3,
+        b"graphm: b.txt: no such file\n",
+    ),
+];
+
+/// Each call would fail that a build made behind the refusal of its text.
+#[test]
+fn no_call_is_made_behind_a_refusal(rt: HostRuntime) -> Result<(), Fail> {
+    for (words, text, read, status, line) in REFUSED {
+        let fails = [
+            (Call::Size, 2),
+            (Call::Read, read),
+            (Call::Create, 1),
+            (Call::Append, 1),
+        ];
+        let end = call(&rt, words, text, &fails, &[])?;
+        assert_eq!(rt; end.status, status, "{words:?}");
+        assert_eq!(rt; end.err.written(), line, "{words:?}");
+        assert_eq!(rt; end.depot.faults(), 0, "{words:?}");
+        assert_eq!(rt; end.out.written().len(), 0, "{words:?}");
+    }
+    Ok(())
+}
+
 #[test]
 fn output_fails_at_its_first_write(rt: HostRuntime) -> Result<(), Fail> {
     let end = call(&rt, &WORDS, LIST, &[], &[(1, 3)])?;
@@ -289,7 +333,7 @@ fn grid_with_bad_edge(rt: &HostRuntime) -> Result<Vec<u8>, Fail> {
 
 const GRID_FAILED: &[u8] = b"graphm: a.grid: read failed\n";
 
-/// Each read of an info fails in turn: of a good grid, of one cut by one byte, and of one with a bad edge.
+/// Each read of an info fails in turn: of a good grid, of one cut by one byte, and of one with a bad edge. The size is asked for once.
 #[test]
 fn each_read_of_an_info_fails_in_turn(rt: HostRuntime) -> Result<(), Fail> {
     let bad = grid_with_bad_edge(&rt)?;
@@ -302,7 +346,7 @@ fn each_read_of_an_info_fails_in_turn(rt: HostRuntime) -> Result<(), Fail> {
     ];
     for (grid, made, status, line) in table {
         for number in 1..made + 2 {
-            let end = info(&rt, "1", grid, &[(Call::Read, number)])?;
+            let end = info(&rt, "1", grid, &[(Call::Read, number), (Call::Size, 2)])?;
             let failed = number <= made;
             assert_eq!(rt;
                 end.status,

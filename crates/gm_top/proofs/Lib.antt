@@ -1,2 +1,3 @@
-pub mod RoundLemmas
-pub mod LoadLemmas
+pub mod Loading
+pub mod Running
+pub mod Counting

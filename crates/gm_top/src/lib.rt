@@ -2,7 +2,6 @@
 #![tactic(auto)]
 
 mod here;
-mod rounds;
 mod run_call;
 mod starting;
 #[cfg(test)]

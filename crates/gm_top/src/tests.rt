@@ -1,7 +1,10 @@
 //! The whole path over files in memory: texts, statuses, and each call failing in turn.
+mod grids;
+mod refusals;
+
 use crate::{graphm, program};
 use gm_base::Words;
-use gm_fakes::{Call, MemDepot, MemSink, NotingDepot};
+use gm_fakes::{Call, DriftDepot, MemDepot, MemSink, NotingDepot};
 use gm_outside::{Depot, OpenGate};
 use std::env::Args;
 use std::io;
@@ -17,10 +20,6 @@ const REPORT: &[u8] = b"job a version 0 done rounds 3\n0 0\n1 1\n2 1\n3 2\n";
 
 const USAGE: &[u8] =
     b"graphm: usage: run GRID JOBS WORKERS CHUNK, build EDGES GRID N PARTS, info GRID CHUNK, drill NUMBER SCALE WORKERS\n";
-
-const GRID_FAILED: &[u8] = b"graphm: a.grid: read failed\n";
-
-const JOBS_FAILED: &[u8] = b"graphm: j.txt: read failed\n";
 
 /// How a call ended.
 #[derive(Drop)]
@@ -82,13 +81,46 @@ fn run_over(rt: &HostRuntime, words: &str, grid: &[u8]) -> Result<End<MemDepot>,
     call_over(rt, words, depot_of(rt, grid, Vec::new(rt.alloc()))?)
 }
 
+/// The same with these bytes as the job text.
+fn run_job(rt: &HostRuntime, words: &str, grid: &[u8], text: &[u8]) -> Result<End<MemDepot>, Fail> {
+    let mut depot = depot_of(rt, grid, Vec::new(rt.alloc()))?;
+    depot.put("j.txt", text)?;
+    call_over(rt, words, depot)
+}
+
+/// The status of a call, and what it wrote on standard output and on standard error.
+type Ending = (u8, &'static [u8], &'static [u8]);
+
+/// The call ended so.
+fn check_end<R: AllocGlobal + Abort, D>(
+    rt: &R,
+    end: &End<D>,
+    expected: (u8, &[u8], &[u8]),
+    case: &str,
+) {
+    let (status, out, err) = expected;
+    assert_eq!(rt; end.status, status, "{case}");
+    assert_eq!(rt; end.out.written(), out, "{case}");
+    assert_eq!(rt; end.err.written(), err, "{case}");
+}
+
 const RUN: &str = "run a.grid j.txt 1 1";
 
-const RUN_CALLS: [(Call, &str); 4] = [
+/// The opening, the job text, and in two rounds the chunks 0 and 2, and then 1 and 4.
+const RUN_CALLS: [(Call, &str); 13] = [
     (Call::Size, "a.grid"),
+    (Call::Read, "a.grid"),
+    (Call::Read, "a.grid"),
+    (Call::Read, "a.grid"),
+    (Call::Read, "a.grid"),
+    (Call::Read, "a.grid"),
     (Call::Read, "a.grid"),
     (Call::Size, "j.txt"),
     (Call::Read, "j.txt"),
+    (Call::Read, "a.grid"),
+    (Call::Read, "a.grid"),
+    (Call::Read, "a.grid"),
+    (Call::Read, "a.grid"),
 ];
 
 const BUILD: &str = "build e.txt b.grid 4 2";
@@ -100,68 +132,234 @@ const BUILD_CALLS: [(Call, &str); 4] = [
     (Call::Append, "b.grid"),
 ];
 
+/// As many of the calls as stand here were made, and no other one.
+fn check_calls<R: AllocGlobal + Abort>(
+    rt: &R,
+    depot: &NotingDepot<MemDepot>,
+    calls: &[(Call, &str)],
+    case: &str,
+) -> Result<(), Fail> {
+    let noted = depot.calls().ok_or("a note was lost")?;
+    assert_eq!(rt; noted.len(), calls.len(), "{case}");
+    for (noted, &(kind, name)) in noted.iter().zip(calls) {
+        assert_eq!(rt; noted.kind, kind, "{case}");
+        assert_eq!(rt; noted.name.as_str(), name, "{case}");
+    }
+    Ok(())
+}
+
 /// Does what the words say where the call of this kind and number fails. As many of the calls as stand here are made, and no other one.
 fn check_failing<R: AllocGlobal + Abort>(
     rt: &R,
     words: &str,
     calls: &[(Call, &str)],
     fails: (Call, u64),
-    line: &[u8],
+    ending: Ending,
 ) -> Result<(), Fail> {
+    let case = format!(in rt.alloc(); "{words} {fails:?}")?;
     let depot = depot_of(rt, PATH, vec![in rt.alloc(); fails]?)?;
     let end = call_over(rt, words, NotingDepot::new(rt.alloc(), depot))?;
-    let noted = end.depot.calls().ok_or("a note was lost")?;
-    assert_eq!(rt; noted.len(), calls.len(), "{words} {fails:?}");
-    for (noted, &(kind, name)) in noted.iter().zip(calls) {
-        assert_eq!(rt; noted.kind, kind, "{words} {fails:?}");
-        assert_eq!(rt; noted.name.as_str(), name, "{words} {fails:?}");
-    }
-    let (status, faults) = if line.is_empty() { (0, 0) } else { (6, 1) };
-    assert_eq!(rt; end.status, status, "{words} {fails:?}");
-    assert_eq!(rt; end.depot.depot().faults(), faults, "{words} {fails:?}");
-    assert_eq!(rt; end.err.written(), line, "{words} {fails:?}");
-    assert_eq!(rt;
-        end.out.written().is_empty(),
-        faults == 1,
-        "{words} {fails:?}"
-    );
+    check_end(rt, &end, ending, &case);
+    check_calls(rt, &end.depot, calls, &case)?;
+    let faults = if ending.0 == 0 { 0 } else { 1 };
+    assert_eq!(rt; end.depot.depot().faults(), faults, "{case}");
     Ok(())
 }
 
-/// A call that fails, or would if it were made, how many calls are made then, and the line.
-const FAILING_RUNS: [(Call, u64, usize, &[u8]); 6] = [
+const DONE: Ending = (0, REPORT, b"");
+
+const GRID_FAILED: Ending = (6, b"", b"graphm: a.grid: read failed\n");
+
+const JOBS_FAILED: Ending = (6, b"", b"graphm: j.txt: read failed\n");
+
+/// A call that fails, or would if it were made, how many calls are made then, and how the run ends.
+const FAILING_RUNS: [(Call, u64, usize, Ending); 15] = [
     (Call::Size, 1, 1, GRID_FAILED),
     (Call::Read, 1, 2, GRID_FAILED),
-    (Call::Size, 2, 3, JOBS_FAILED),
-    (Call::Read, 2, 4, JOBS_FAILED),
-    (Call::Size, 3, 4, b""),
-    (Call::Read, 3, 4, b""),
-];
-
-/// The same for a build.
-const FAILING_BUILDS: [(Call, u64, usize, &[u8]); 8] = [
-    (Call::Size, 1, 1, b"graphm: e.txt: read failed\n"),
-    (Call::Read, 1, 2, b"graphm: e.txt: read failed\n"),
-    (Call::Create, 1, 3, b"graphm: b.grid: write failed\n"),
-    (Call::Append, 1, 4, b"graphm: b.grid: write failed\n"),
-    (Call::Size, 2, 4, b""),
-    (Call::Read, 2, 4, b""),
-    (Call::Create, 2, 4, b""),
-    (Call::Append, 2, 4, b""),
+    (Call::Read, 2, 3, GRID_FAILED),
+    (Call::Read, 3, 4, GRID_FAILED),
+    (Call::Read, 4, 5, GRID_FAILED),
+    (Call::Read, 5, 6, GRID_FAILED),
+    (Call::Read, 6, 7, GRID_FAILED),
+    (Call::Size, 2, 8, JOBS_FAILED),
+    (Call::Read, 7, 9, JOBS_FAILED),
+    (
+        Call::Read,
+        8,
+        10,
+        (1, b"job a version 0 failed read 0 0\n", b""),
+    ),
+    (
+        Call::Read,
+        9,
+        11,
+        (1, b"job a version 0 failed read 1 2\n", b""),
+    ),
+    (
+        Call::Read,
+        10,
+        12,
+        (1, b"job a version 0 failed read 1 1\n", b""),
+    ),
+    (
+        Call::Read,
+        11,
+        13,
+        (1, b"job a version 0 failed read 3 4\n", b""),
+    ),
+    (Call::Read, 12, 13, DONE),
+    (Call::Size, 3, 13, DONE),
 ];
 
 #[test]
 fn each_call_of_a_run_fails_in_turn(rt: HostRuntime) -> Result<(), Fail> {
-    for (kind, number, made, line) in FAILING_RUNS {
-        check_failing(&rt, RUN, &RUN_CALLS[..made], (kind, number), line)?;
+    for (kind, number, made, ending) in FAILING_RUNS {
+        let calls = RUN_CALLS.get(..made).ok_or("more calls than a run makes")?;
+        check_failing(&rt, RUN, calls, (kind, number), ending)?;
     }
     Ok(())
 }
 
+/// The block and the chunk of each fetch of a job `wcc`: four in each of two rounds, and three in the last one.
+const FETCHES: [(u32, u32); 11] = [
+    (0, 0),
+    (1, 1),
+    (1, 2),
+    (3, 4),
+    (0, 0),
+    (1, 1),
+    (1, 2),
+    (3, 4),
+    (1, 1),
+    (1, 2),
+    (3, 4),
+];
+
+/// In each round the chunks are fetched in the order of their numbers: a read that fails tells which one it was to be.
+#[test]
+fn the_least_owed_chunk_is_fetched(rt: HostRuntime) -> Result<(), Fail> {
+    for (read, (block, chunk)) in (8..19_u64).zip(FETCHES) {
+        let mut depot = depot_of(&rt, PATH, vec![in rt.alloc(); (Call::Read, read)]?)?;
+        depot.put("j.txt", b"job a wcc")?;
+        let end = call_over(&rt, RUN, depot)?;
+        let line = format!(in rt.alloc(); "job a version 0 failed read {block} {chunk}\n")?;
+        check_end(&rt, &end, (1, line.as_bytes(), b""), &line);
+        assert_eq!(rt; end.depot.reads(), read, "{line}");
+        assert_eq!(rt; end.depot.faults(), 1, "{line}");
+    }
+    Ok(())
+}
+
+const EDGES_FAILED: Ending = (6, b"", b"graphm: e.txt: read failed\n");
+
+const BUILD_FAILED: Ending = (6, b"", b"graphm: b.grid: write failed\n");
+
+const BUILT: Ending = (0, b"edges 1 blocks 4\n", b"");
+
+/// The same for a build.
+const FAILING_BUILDS: [(Call, u64, usize, Ending); 8] = [
+    (Call::Size, 1, 1, EDGES_FAILED),
+    (Call::Read, 1, 2, EDGES_FAILED),
+    (Call::Create, 1, 3, BUILD_FAILED),
+    (Call::Append, 1, 4, BUILD_FAILED),
+    (Call::Size, 2, 4, BUILT),
+    (Call::Read, 2, 4, BUILT),
+    (Call::Create, 2, 4, BUILT),
+    (Call::Append, 2, 4, BUILT),
+];
+
 #[test]
 fn each_call_of_a_build_fails_in_turn(rt: HostRuntime) -> Result<(), Fail> {
-    for (kind, number, made, line) in FAILING_BUILDS {
-        check_failing(&rt, BUILD, &BUILD_CALLS[..made], (kind, number), line)?;
+    for (kind, number, made, ending) in FAILING_BUILDS {
+        check_failing(&rt, BUILD, &BUILD_CALLS[..made], (kind, number), ending)?;
+    }
+    Ok(())
+}
+
+/// The edge from 1 to 1 of weight 1.
+const AT_ONE: &[u8] = b"\x01\0\0\0\x01\0\0\0\x01\0\0\0";
+
+/// The edge from 3 to 3 of weight 1.
+const AT_THREE: &[u8] = b"\x03\0\0\0\x03\0\0\0\x01\0\0\0";
+
+/// The edge from 2 to 3 of weight 3.
+const HEAVIER: &[u8] = b"\x02\0\0\0\x03\0\0\0\x03\0\0\0";
+
+/// The read that finds other bytes, these bytes with zeros behind them, a job, how many reads are made then, the status, and the report.
+const DRIFTS: [(u64, &[u8], &[u8], u64, u8, &[u8]); 8] = [
+    (
+        8,
+        AT_ONE,
+        b"job a bfs 0",
+        8,
+        1,
+        b"job a version 0 failed changed 0 0\n",
+    ),
+    (
+        9,
+        AT_THREE,
+        b"job a bfs 0",
+        9,
+        1,
+        b"job a version 0 failed changed 1 2\n",
+    ),
+    (
+        10,
+        b"",
+        b"job a bfs 0",
+        10,
+        1,
+        b"job a version 0 failed changed 1 1\n",
+    ),
+    (
+        11,
+        AT_THREE,
+        b"job a bfs 0",
+        11,
+        1,
+        b"job a version 0 failed changed 3 4\n",
+    ),
+    (12, AT_ONE, b"job a bfs 0", 11, 0, REPORT),
+    // an edge of the same source and block takes the place of the chunk's
+    (
+        8,
+        b"",
+        b"job a bfs 0",
+        10,
+        0,
+        b"job a version 0 done rounds 3\n0 0\n1 -\n2 1\n3 2\n",
+    ),
+    // the last chunk is read again for its second visit
+    (
+        12,
+        HEAVIER,
+        b"job a sssp 0",
+        12,
+        0,
+        b"job a version 0 done rounds 4\n0 0\n1 1\n2 2\n3 5\n",
+    ),
+    // what the opening found is compared
+    (
+        3,
+        AT_ONE,
+        b"job a bfs 1",
+        8,
+        1,
+        b"job a version 0 failed changed 0 0\n",
+    ),
+];
+
+#[test]
+fn chunks_change_after_the_opening(rt: HostRuntime) -> Result<(), Fail> {
+    for (read, bytes, job, reads, status, report) in DRIFTS {
+        let mut depot = depot_of(&rt, PATH, Vec::new(rt.alloc()))?;
+        depot.put("j.txt", job)?;
+        let depot = DriftDepot::new(depot, read, bytes.to_vec(rt.alloc())?);
+        let end = call_over(&rt, RUN, depot)?;
+        let case = format!(in rt.alloc(); "{read} {bytes:?}")?;
+        check_end(&rt, &end, (status, report, b""), &case);
+        assert_eq!(rt; end.depot.depot().reads(), reads, "{case}");
+        assert_eq!(rt; end.depot.depot().faults(), 0, "{case}");
     }
     Ok(())
 }
@@ -188,136 +386,6 @@ fn a_sink_fails_at_its_first_write(rt: HostRuntime) -> Result<(), Fail> {
     Ok(())
 }
 
-/// Words, the status that they end with, and their line.
-const REFUSED: [(&str, u8, &[u8]); 12] = [
-    ("run b.grid j.txt 1 1", 3, b"graphm: b.grid: no such file\n"),
-    (
-        "run a.grid b.txt 1 65536",
-        3,
-        b"graphm: b.txt: no such file\n",
-    ),
-    (
-        "run a.grid a.grid 1 1",
-        5,
-        b"graphm: a.grid: not built yet\n",
-    ),
-    (
-        "run j.txt j.txt 1 1",
-        4,
-        b"graphm: j.txt: size 12, expected 16\n",
-    ),
-    ("run a.grid j.txt 0 1", 2, USAGE),
-    ("run a.grid j.txt 2 1", 2, USAGE),
-    ("run a.grid j.txt 1 0", 2, USAGE),
-    ("run a.grid j.txt 1 65537", 2, USAGE),
-    ("run  j.txt 1 1", 2, USAGE),
-    ("run a.grid -j.txt 1 1", 2, USAGE),
-    ("ruN a.grid j.txt 1 1", 2, USAGE),
-    ("", 2, USAGE),
-];
-
-#[test]
-fn words_and_files_are_refused(rt: HostRuntime) -> Result<(), Fail> {
-    for (words, status, line) in REFUSED {
-        let end = run_over(&rt, words, PATH)?;
-        assert_eq!(rt; end.status, status, "{words}");
-        assert_eq!(rt; end.err.written(), line, "{words}");
-        assert_eq!(rt; end.out.written().len(), 0, "{words}");
-    }
-    Ok(())
-}
-
-/// The report over the grid with this byte changed in its lowest bit, where it is a grid still: worked out apart from the program.
-fn report_with_byte_changed(place: usize) -> Option<&'static [u8]> {
-    match place {
-        48 | 52 => Some(b"job a version 0 done rounds 3\n0 0\n1 -\n2 1\n3 2\n"),
-        72 => Some(b"job a version 0 done rounds 4\n0 0\n1 1\n2 2\n3 3\n"),
-        76 => Some(b"job a version 0 done rounds 3\n0 0\n1 1\n2 2\n3 1\n"),
-        84 | 88 => Some(b"job a version 0 done rounds 2\n0 0\n1 1\n2 1\n3 -\n"),
-        56..=60 | 64 | 68..=71 | 80..=83 | 92..=95 => Some(REPORT),
-        _ => None,
-    }
-}
-
-/// The file with one byte changed in its lowest bit.
-fn changed_at(rt: &HostRuntime, place: usize) -> Result<Vec<u8>, Fail> {
-    let mut bytes = PATH.to_vec(rt.alloc())?;
-    if place < bytes.len() {
-        bytes[place] ^= 1;
-    }
-    Ok(bytes)
-}
-
-/// The front of the file.
-fn cut_at(place: usize) -> &'static [u8] {
-    let file = PATH;
-    if place < file.len() {
-        &file[..place]
-    } else {
-        file
-    }
-}
-
-/// What is wrong with the grid with this byte changed in its lowest bit, where it is none: worked out apart from the program.
-fn refusal_with_byte_changed(place: usize) -> &'static str {
-    match place {
-        0..=7 => "bad magic",
-        8..=10 => "bad edge 1",
-        11 => "bad shape n 16777220 parts 2",
-        12 => "too many edges 30064771084",
-        13 => "bad shape n 4 parts 258",
-        14 => "bad shape n 4 parts 65538",
-        15 => "bad shape n 4 parts 16777218",
-        16 | 40 => "size 96, expected 84",
-        24 | 32 => "size 96, expected 108",
-        17 | 25 | 33 | 41 => "size 96, expected 3168",
-        18 | 26 | 34 | 42 => "size 96, expected 786528",
-        19 | 27 | 35 | 43 => "too many edges 16777220",
-        20 | 28 | 36 | 44 => "too many edges 4294967300",
-        21 | 29 | 37 | 45 => "too many edges 1099511627780",
-        22 | 30 | 38 | 46 => "too many edges 281474976710660",
-        23 | 31 | 39 | 47 => "too many edges 72057594037927940",
-        48..=59 => "bad edge 0",
-        60..=71 => "bad edge 1",
-        72..=83 => "bad edge 2",
-        _ => "bad edge 3",
-    }
-}
-
-#[test]
-fn each_byte_of_the_grid_counts(rt: HostRuntime) -> Result<(), Fail> {
-    for place in 0..96 {
-        let end = run_over(&rt, RUN, &changed_at(&rt, place)?)?;
-        let refusal = refusal_with_byte_changed(place);
-        let line = format!(in rt.alloc(); "graphm: a.grid: {refusal}\n")?;
-        let (status, out, err) = match report_with_byte_changed(place) {
-            Some(report) => (0, report, b"".as_slice()),
-            None => (4, b"".as_slice(), line.as_bytes()),
-        };
-        assert_eq!(rt; end.status, status, "at {place}");
-        assert_eq!(rt; end.out.written(), out, "at {place}");
-        assert_eq!(rt; end.err.written(), err, "at {place}");
-    }
-    Ok(())
-}
-
-#[test]
-fn each_cut_of_the_grid_is_refused(rt: HostRuntime) -> Result<(), Fail> {
-    for size in 0..96 {
-        let cut = run_over(&rt, RUN, cut_at(size))?;
-        let expected = match size {
-            0..=15 => 16,
-            16..=47 => 48,
-            _ => 96,
-        };
-        let line = format!(in rt.alloc(); "graphm: a.grid: size {size}, expected {expected}\n")?;
-        assert_eq!(rt; cut.status, 4, "at {size}");
-        assert_eq!(rt; cut.out.written().len(), 0, "at {size}");
-        assert_eq!(rt; cut.err.written(), line.as_bytes(), "at {size}");
-    }
-    Ok(())
-}
-
 /// Four vertices, where vertex 1 is joined to the others only against the direction of edges.
 const CROSSED: &[u8] =
     b"GGRID001\x04\0\0\0\x02\0\0\0\0\0\0\0\0\0\0\0\x01\0\0\0\0\0\0\0\x01\0\0\0\0\0\0\0\x01\0\0\0\0\0\0\0\x01\0\0\0\x02\0\0\0\x01\0\0\0\x03\0\0\0\0\0\0\0\x01\0\0\0\x03\0\0\0\x02\0\0\0\x01\0\0\0";
@@ -333,122 +401,136 @@ const HEAVY: &[u8] =
 const LOOPED: &[u8] =
     b"GGRID001\x03\0\0\0\x01\0\0\0\x03\0\0\0\0\0\0\0\0\0\0\0\0\0\0\0\x07\0\0\0\0\0\0\0\x01\0\0\0\x04\0\0\0\0\0\0\0\x01\0\0\0\x02\0\0\0";
 
-/// A grid, a job of it, the status and the report.
-const JOBS: [(&[u8], &[u8], u8, &[u8]); 16] = [
-    (PATH, b"job a bfs 0", 0, REPORT),
+/// A grid, a job of it, the status, how many reads are made with chunks of one edge and with large ones, and the report.
+const JOBS: [(&[u8], &[u8], u8, [u64; 2], &[u8]); 16] = [
+    (PATH, b"job a bfs 0", 0, [11, 10], REPORT),
     (
         PATH,
         b"job a sssp 0",
         0,
+        [12, 11],
         b"job a version 0 done rounds 4\n0 0\n1 1\n2 2\n3 3\n",
     ),
     (
         PATH,
         b"job a sssp 0 rounds 4",
         0,
+        [12, 11],
         b"job a version 0 done rounds 4\n0 0\n1 1\n2 2\n3 3\n",
     ),
     (
         PATH,
         b"job a sssp 0 rounds 3",
         1,
+        [12, 11],
         b"job a version 0 failed rounds 3\n",
     ),
     (
         PATH,
         b"job a wcc",
         0,
+        [18, 14],
         b"job a version 0 done rounds 3\n0 0\n1 0\n2 0\n3 0\n",
     ),
     (
         PATH,
         b"job a rank 1",
         0,
+        [15, 12],
         b"job a version 0 done rounds 1\n0 150000000\n1 575000000\n2 1425000000\n3 1000000000\n",
     ),
     (
         PATH,
         b"job a rank 2",
         0,
+        [19, 15],
         b"job a version 0 done rounds 2\n0 150000000\n1 213750000\n2 702500000\n3 1361250000\n",
     ),
     (
         CROSSED,
         b"job a wcc",
         0,
+        [16, 16],
         b"job a version 0 done rounds 4\n0 0\n1 0\n2 0\n3 0\n",
     ),
     (
         ALONE,
         b"job a bfs 0",
         0,
+        [3, 3],
         b"job a version 0 done rounds 1\n0 0\n",
     ),
     (
         ALONE,
         b"job a rank 3",
         0,
+        [3, 3],
         b"job a version 0 done rounds 3\n0 150000000\n",
     ),
     (
         HEAVY,
         b"job a sssp 0",
         0,
+        [7, 6],
         b"job a version 0 done rounds 3\n0 0\n1 4294967295\n2 8589934590\n",
     ),
     (
         LOOPED,
         b"job a bfs 0",
         0,
+        [9, 5],
         b"job a version 0 done rounds 2\n0 0\n1 1\n2 -\n",
     ),
     (
         LOOPED,
         b"job a sssp 0",
         0,
+        [9, 5],
         b"job a version 0 done rounds 2\n0 0\n1 2\n2 -\n",
     ),
     (
         LOOPED,
         b"job a wcc",
         0,
+        [12, 6],
         b"job a version 0 done rounds 2\n0 0\n1 0\n2 2\n",
     ),
     (
         LOOPED,
         b"job a bfs 0 rounds 1",
         1,
+        [9, 5],
         b"job a version 0 failed rounds 1\n",
     ),
     (
         LOOPED,
         b"job a bfs 2 rounds 1",
         0,
+        [6, 4],
         b"job a version 0 done rounds 1\n0 -\n1 -\n2 0\n",
     ),
 ];
 
 #[test]
 fn each_kind_of_job_gives_its_report(rt: HostRuntime) -> Result<(), Fail> {
-    for (grid, jobs, status, report) in JOBS {
-        let mut depot = MemDepot::new(rt.alloc(), Vec::new(rt.alloc()));
-        depot.put("a.grid", grid)?;
-        depot.put("j.txt", jobs)?;
-        let end = call_over(&rt, RUN, depot)?;
-        assert_eq!(rt; end.status, status, "{jobs:?}");
-        assert_eq!(rt; end.out.written(), report, "{jobs:?}");
-        assert_eq!(rt; end.err.written().len(), 0, "{jobs:?}");
+    for (grid, job, status, reads, report) in JOBS {
+        for (words, reads) in [RUN, "run a.grid j.txt 1 65536"].into_iter().zip(reads) {
+            let end = run_job(&rt, words, grid, job)?;
+            let case = format!(in rt.alloc(); "{words} {job:?}")?;
+            check_end(&rt, &end, (status, report, b""), &case);
+            assert_eq!(rt; end.depot.reads(), reads, "{case}");
+        }
     }
     Ok(())
 }
 
-/// A job's line and a comment, so many bytes in all.
-fn job_text(rt: &HostRuntime, length: usize) -> Result<Vec<u8>, Fail> {
-    let mut text = b"job a bfs 0\n".to_vec(rt.alloc())?;
-    for _ in text.len()..length {
-        text.push(b'#')?;
+/// These bytes, and one byte again and again behind them, up to this length.
+fn padded(rt: &HostRuntime, front: &[u8], length: usize, byte: u8) -> Result<Vec<u8>, Fail> {
+    let mut bytes = front.to_vec(rt.alloc())?;
+    for _ in bytes.len()..length {
+        bytes.push(byte)?;
     }
-    Ok(text)
+    Ok(bytes)
 }
 
 /// A text of 1,048,576 bytes is read, a longer one is refused by its size.
@@ -459,13 +541,11 @@ fn a_long_job_text_is_refused_unread(rt: HostRuntime) -> Result<(), Fail> {
         (1_048_576, 0, REPORT, b"".as_slice()),
         (1_048_577, 5, b"", refusal),
     ] {
-        let fails = vec![in rt.alloc(); (Call::Read, if status == 0 { 3 } else { 2 })]?;
+        let fails = vec![in rt.alloc(); (Call::Read, if status == 0 { 12 } else { 7 })]?;
         let mut depot = depot_of(&rt, PATH, fails)?;
-        depot.put("j.txt", &job_text(&rt, length)?)?;
+        depot.put("j.txt", &padded(&rt, b"job a bfs 0\n", length, b'#')?)?;
         let end = call_over(&rt, RUN, depot)?;
-        assert_eq!(rt; end.status, status, "{length}");
-        assert_eq!(rt; end.out.written(), out, "{length}");
-        assert_eq!(rt; end.err.written(), line, "{length}");
+        check_end(&rt, &end, (status, out, line), "a long text");
     }
     Ok(())
 }
@@ -485,6 +565,21 @@ fn tree(rt: &HostRuntime) -> Result<Vec<u8>, Fail> {
     Ok(grid)
 }
 
+/// Adds a vertex's line to a report.
+fn push_value(
+    rt: &HostRuntime,
+    report: &mut String,
+    vertex: u32,
+    value: Option<u32>,
+) -> Result<(), Fail> {
+    let line = match value {
+        Some(value) => format!(in rt.alloc(); "{vertex} {value}\n")?,
+        None => format!(in rt.alloc(); "{vertex} -\n")?,
+    };
+    report.push_str(line.as_str())?;
+    Ok(())
+}
+
 /// The value of a vertex of the tree. A vertex's out-degree is 6, and the root's is 7: then 141,666,666 and 121,428,571 go over each edge.
 fn value_in_tree(kind: &str, vertex: u32) -> u32 {
     match (kind, vertex) {
@@ -499,17 +594,80 @@ fn value_in_tree(kind: &str, vertex: u32) -> u32 {
 #[test]
 fn a_tree_gives_its_levels(rt: HostRuntime) -> Result<(), Fail> {
     for (kind, rounds) in [("bfs 0", 13), ("sssp 0", 13), ("wcc", 13), ("rank 1", 1)] {
-        let mut depot = MemDepot::new(rt.alloc(), Vec::new(rt.alloc()));
-        depot.put("a.grid", &tree(&rt)?)?;
-        depot.put("j.txt", format!(in rt.alloc(); "job a {kind}")?.as_bytes())?;
-        let end = call_over(&rt, RUN, depot)?;
+        let job = format!(in rt.alloc(); "job a {kind}")?;
+        let end = run_job(&rt, "run a.grid j.txt 1 512", &tree(&rt)?, job.as_bytes())?;
         let mut report = format!(in rt.alloc(); "job a version 0 done rounds {rounds}\n")?;
         for vertex in 0..8_191 {
-            let value = value_in_tree(kind, vertex);
-            report.push_str(format!(in rt.alloc(); "{vertex} {value}\n")?.as_str())?;
+            push_value(&rt, &mut report, vertex, Some(value_in_tree(kind, vertex)))?;
         }
-        assert_eq!(rt; end.status, 0, "{kind}");
-        assert!(rt; end.out.written() == report.as_bytes(), "{kind}");
+        check_end(&rt, &end, (0, report.as_bytes(), b""), kind);
+    }
+    Ok(())
+}
+
+/// The list of the edges of three lattices. Vertex v below 972 belongs to lattice v % 3: it stands there in row v / 54 and in column
+/// v / 3 % 18. An edge of weight 1 leads from it to the next column, but two lead from the last column to the first one, of weights 2 and 1.
+/// Another edge leads to the next row, and from the last row to the first one: its weight is 50, and 1 in the last column.
+fn lattice_text(rt: &HostRuntime) -> Result<String, Fail> {
+    let mut text = String::new(rt.alloc());
+    for vertex in 0..972_u32 {
+        let below = (vertex + 54) % 972;
+        let lines = if vertex / 3 % 18 == 17 {
+            let first = (vertex + 921) % 972;
+            format!(in rt.alloc(); "{vertex} {first} 2\n{vertex} {first}\n{vertex} {below}\n")?
+        } else {
+            let next = vertex + 3;
+            format!(in rt.alloc(); "{vertex} {next}\n{vertex} {below} 50\n")?
+        };
+        text.push_str(lines.as_str())?;
+    }
+    Ok(text)
+}
+
+/// The value of a vertex of the lattices, where 28 vertices have no edge. A share of 425,000,000 goes over each edge at first, and of
+/// 283,333,333 from the last column.
+fn value_in_lattice(kind: &str, vertex: u32) -> Option<u32> {
+    let (row, column) = (vertex / 54, vertex / 3 % 18);
+    match (kind, vertex % 3) {
+        ("wcc", lattice) => Some(if vertex < 972 { lattice } else { vertex }),
+        ("rank 3", _) => Some(match column {
+            _ if vertex >= 972 => 150_000_000,
+            0 => 1_090_322_336,
+            1 => 1_077_267_359,
+            2 => 1_025_588_541,
+            17 => 806_821_759,
+            _ => 1_000_000_000,
+        }),
+        (_, 1 | 2) => None,
+        _ if vertex >= 972 => None,
+        ("bfs 0", _) => Some(row + column),
+        _ if row == 0 || column == 17 => Some(row + column),
+        _ => Some(row + column + 18),
+    }
+}
+
+/// Three lattices of 18 rows and columns in 25 blocks and 64 chunks. How many reads are made was counted apart from the program.
+#[test]
+fn lattices_give_their_values(rt: HostRuntime) -> Result<(), Fail> {
+    let mut depot = MemDepot::new(rt.alloc(), Vec::new(rt.alloc()));
+    depot.put("e.txt", lattice_text(&rt)?.as_bytes())?;
+    let built = call_over(&rt, "build e.txt a.grid 1000 5", depot)?;
+    check_end(&rt, &built, (0, b"edges 1998 blocks 25\n", b""), "build");
+    let grid = built.depot.file("a.grid").ok_or("there is no grid")?;
+    for (kind, rounds, reads) in [
+        ("bfs 0", 35, 475),
+        ("sssp 0", 52, 850),
+        ("wcc", 19, 890),
+        ("rank 3", 3, 268),
+    ] {
+        let job = format!(in rt.alloc(); "job a {kind}")?;
+        let end = run_job(&rt, "run a.grid j.txt 1 48", grid, job.as_bytes())?;
+        let mut report = format!(in rt.alloc(); "job a version 0 done rounds {rounds}\n")?;
+        for vertex in 0..1_000 {
+            push_value(&rt, &mut report, vertex, value_in_lattice(kind, vertex))?;
+        }
+        check_end(&rt, &end, (0, report.as_bytes(), b""), kind);
+        assert_eq!(rt; end.depot.reads(), reads, "{kind}");
     }
     Ok(())
 }

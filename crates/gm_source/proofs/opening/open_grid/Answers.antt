@@ -11,7 +11,8 @@ use Rattle.gm_label.specs.Catalogues.{Catalogue}
 use Rattle.gm_source.specs.Openings.{OpensBy, IsTold, HasLabelled, IsCatalogueOf, chunk_reads, opening_reads}
 use Rattle.gm_source.specs.OpeningsRules.{opens_by-then, opens_by-more, opens_by-served, opens_by-passed}
 use Rattle.gm_source.proofs.Told.{told-weaker}
-use Rattle.gm_source.proofs.LabelledChunks.{HasSizes, labelled-taken, labelled-small, labelled-catalogue, few_reads, counted_times-add}
+use Rattle.gm_source.proofs.LabelledChunks.{HasSizes, labelled-taken, labelled-small, labelled-catalogue, few_reads}
+use Rattle.gm_outside.specs.CausesRules.{counted_times-add}
 use Rattle.gm_source.proofs.opening.open_grid.Goals as goal
 
 pub returns-in_err-label_plan-clause-opens : goal.returns-in_err-label_plan-clause-opens

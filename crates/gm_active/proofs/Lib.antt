@@ -1,0 +1,5 @@
+pub mod Bits
+pub mod Marks
+pub mod Counting
+pub mod Searching
+pub mod Added

@@ -1,0 +1,11 @@
+use Rattle.std.proofs.Common.{◌≡◌, ◌≤◌, max}
+use Rattle.gm_label.specs.Catalogues.{sources_at}
+use Rattle.gm_active.specs.Needs.{has_source}
+use Rattle.gm_active.specs.Adding.{with_all, between}
+use Rattle.gm_active.proofs.scheduling.add_with_source.Given as goal
+
+abbrev pub invariant-loop-c : goal.invariant-loop-c
+invariant-loop-c l = record {
+  within : l.c ≤ max l.first l.end;
+  added : l.into ≡ with_all l.initial.into (between l.first l.c (λ c. has_source (sources_at l.cat c)));
+}

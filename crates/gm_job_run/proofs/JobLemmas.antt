@@ -1,0 +1,140 @@
+-- A job under way: it begins so, each pass and each turn keeps it so, and at its end it has made all reads of its lone run.
+use Rattle.std.specs.Prelude.{◌≡◌, ℕ, ◌+◌, ◌≤◌, Bool, true, List, [], count_by, refl}
+use Rattle.std.proofs.Common.{sym, ap, ◌∙◌, subst, arith}
+use Rattle.gm_base.specs.declared.edge.Edge.{Edge}
+use Rattle.gm_base.specs.declared.edge.Key.{Key}
+use Rattle.gm_base.specs.Graph.{IsSameGraph, is_same_edge}
+use Rattle.gm_grid.specs.GridBytes.{edges_in}
+use Rattle.gm_label.specs.declared.chunk.Overlay.{Overlay}
+use Rattle.gm_label.specs.Catalogues.{Catalogue, base_at}
+use Rattle.gm_label.specs.Overlays.{key_at}
+use Rattle.gm_work.specs.Held.{Held, knows, known_of}
+use Rattle.gm_job_run.specs.declared.job_run.Stop.{Stop}
+use Rattle.gm_job_run.specs.declared.job_run.Stop.TheVariants.{Read, Changed, Memory}
+use Rattle.gm_kernel.specs.Runs.{most_rounds}
+use Rattle.gm_outside.specs.Causes.{counted_times}
+use Rattle.gm_outside.specs.CausesRules.{counted_times-add, counted_times-few}
+use Rattle.gm_active.specs.Bits.{is_in}
+use Rattle.gm_work.specs.Entries.{Entry, Turning, first_entry, passing, turned}
+use Rattle.gm_work.specs.Entries.Turning.{Goes, Ends}
+use Rattle.gm_work.specs.Views.{JobView, IsCutIntoChunks, Standing, StandingTurn, IsMidRound, needed_in, owed_at, first_standing, with_passed, turn_at, IsTurnedWell}
+use Rattle.gm_work.specs.Views.StandingTurn.{StandsAt, EndsWith}
+use Rattle.gm_work.specs.Weights.{run_weight, weight_left, IsLeftBy}
+use Rattle.gm_job_run.specs.JobRuns.{IsNeeded, IsUnderWay, IsEnd, StopsBy, OfChunk, IsToldStop, pass_reads, view_over}
+
+-- the laws of gm_work, as its public functions state them
+abbrev pub Begins : Type 0
+Begins = (d : JobView) → 1 ≤ most_rounds d.known.spec → IsMidRound d (first_standing d) (first_entry d.known)
+
+abbrev pub Passes : Type 0
+Passes = (d : JobView) (s : Standing) (e : Entry) (c : ℕ) (edges : List Edge)
+    → IsMidRound d s e → is_in e.owed c ≡ true → IsSameGraph edges (d.content_at c) → IsMidRound d (with_passed s c) (passing d.known e c edges)
+
+abbrev pub OwedIs : Type 0
+OwedIs = (d : JobView) (s : Standing) (e : Entry) → IsMidRound d s e → e.owed ≡ owed_at d s
+
+abbrev pub OwedNeeded : Type 0
+OwedNeeded = (d : JobView) (s : Standing) (x : ℕ) → is_in (owed_at d s) x ≡ true → is_in (needed_in d s.phase) x ≡ true
+
+abbrev pub WeightPasses : Type 0
+WeightPasses = (d : JobView) (weight : ℕ → ℕ) (s : Standing) (c : ℕ) → is_in (owed_at d s) c ≡ true
+    → weight_left d weight (with_passed s c) + weight c ≡ weight_left d weight s
+
+abbrev pub Turns : Type 0
+Turns = (d : JobView) (s : Standing) (e : Entry) → IsCutIntoChunks d → IsMidRound d s e → IsTurnedWell d (turn_at d s) (turned d.known e)
+
+abbrev pub WeightTurns : Type 0
+WeightTurns = (d : JobView) (weight : ℕ → ℕ) (s : Standing) (e : Entry) → IsMidRound d s e → IsLeftBy d weight (weight_left d weight s) (turn_at d s)
+
+pub under_way-begins : (d : JobView) (reads_of : ℕ → ℕ) (reads : ℕ) → 1 ≤ most_rounds d.known.spec → Begins
+    → weight_left d reads_of (first_standing d) ≡ run_weight d reads_of
+    → IsUnderWay d reads_of reads (first_entry d.known) reads
+under_way-begins d reads_of reads some begins all = record {
+  st = first_standing d;
+  mid = begins d some;
+  made = 0;
+  total = omega (arith, all);
+  counted = refl;
+}
+
+pub under_way-passes : (d : JobView) (reads_of : ℕ → ℕ) (first : ℕ) (e next : Entry) (c reads reads' : ℕ) (edges : List Edge) → Passes → OwedIs → WeightPasses
+    → is_in e.owed c ≡ true → IsSameGraph edges (d.content_at c) → next ≡ passing d.known e c edges → reads' ≡ counted_times (reads_of c) reads
+    → IsUnderWay d reads_of first e reads → IsUnderWay d reads_of first next reads'
+under_way-passes d reads_of first e next c reads reads' edges passes owed_is weighs owes same is read way =
+    let owed = ap (λ (marks : List Bool). is_in marks c) (sym (owed_is d way.st e way.mid)) ∙ owes in
+    let less = weighs d reads_of way.st c owed in
+    let total = way.total in
+    record {
+      st = with_passed way.st c;
+      mid = subst (λ (f : Entry). IsMidRound d (with_passed way.st c) f) (sym is) (passes d way.st e c edges way.mid owes same);
+      made = way.made + reads_of c;
+      total = omega (arith, less, total);
+      counted = read ∙ ap (counted_times (reads_of c)) way.counted ∙ sym (counted_times-add way.made (reads_of c) first);
+    }
+
+-- what is owed is needed
+pub under_way-needed : (d : JobView) (reads_of : ℕ → ℕ) (first : ℕ) (e : Entry) (c reads : ℕ) → OwedIs → is_in e.owed c ≡ true
+    → OwedNeeded
+    → IsUnderWay d reads_of first e reads → IsNeeded d c
+under_way-needed d reads_of first e c reads owed_is owes needed way = record {
+  phase = way.st.phase;
+  in_run = way.mid.phase;
+  needed = needed d way.st c (ap (λ (marks : List Bool). is_in marks c) (sym (owed_is d way.st e way.mid)) ∙ owes);
+}
+
+-- no more reads so far than all of the run, even with one more chunk that is owed
+pub under_way-few : (d : JobView) (reads_of : ℕ → ℕ) (first : ℕ) (e : Entry) (c reads reads' : ℕ) → OwedIs → WeightPasses → is_in e.owed c ≡ true
+    → IsUnderWay d reads_of first e reads → reads' ≤ reads + reads_of c → reads' ≤ first + run_weight d reads_of
+under_way-few d reads_of first e c reads reads' owed_is weighs owes way few =
+    let owed = ap (λ (marks : List Bool). is_in marks c) (sym (owed_is d way.st e way.mid)) ∙ owes in
+    let less = weighs d reads_of way.st c owed in
+    let total = way.total in
+    let made = counted_times-few way.made first in
+    let is = way.counted in
+    omega (arith, less, total, made, is, few)
+
+-- what a turn makes of a job that was under way
+abbrev pub AfterTurning : JobView → (ℕ → ℕ) → ℕ → ℕ → Turning → Type 0
+AfterTurning d reads_of first reads (Goes e) = IsUnderWay d reads_of first e reads
+AfterTurning d reads_of first reads (Ends outcome) = IsEnd d reads_of first outcome reads
+
+after_turning : (d : JobView) (reads_of : ℕ → ℕ) (first reads made left : ℕ) (stands : StandingTurn) (turning : Turning)
+    → IsTurnedWell d stands turning → IsLeftBy d reads_of left stands → run_weight d reads_of ≡ made + left → reads ≡ counted_times made first
+    → AfterTurning d reads_of first reads turning
+after_turning d reads_of first reads made left (StandsAt s) (Goes e) well left_is total read =
+    record { st = s; mid = well.0; made = made; total = omega (arith, total, left_is); counted = read }
+after_turning d reads_of first reads made left (StandsAt s) (Ends outcome) well left_is total read = absurd well
+after_turning d reads_of first reads made left (EndsWith outcome) (Goes e) well left_is total read = absurd well
+after_turning d reads_of first reads made left (EndsWith alone) (Ends outcome) well left_is total read =
+    let all : run_weight d reads_of ≡ made = omega (arith, total, left_is) in
+    (well.0 ∙ well.1, read ∙ ap (λ m. counted_times m first) (sym all))
+
+pub under_way-turns : (d : JobView) (reads_of : ℕ → ℕ) (first : ℕ) (e : Entry) (reads : ℕ) → IsCutIntoChunks d → Turns → WeightTurns
+    → IsUnderWay d reads_of first e reads → AfterTurning d reads_of first reads (turned d.known e)
+under_way-turns d reads_of first e reads cut turns weighs way =
+    after_turning d reads_of first reads way.made (weight_left d reads_of way.st) (turn_at d way.st) (turned d.known e)
+    (turns d way.st e cut way.mid) (weighs d reads_of way.st e way.mid) way.total way.counted
+
+-- ---- a job as it is held, over a grid without changes
+
+pub chunk_passed : (h after : Held) (bytes : List ℕ) (first c reads reads' : ℕ) (cat : Catalogue) (key : Key) (edges : List Edge) → Passes → OwedIs → WeightPasses
+    → h.overlays ≡ [] → cat ≡ h.catalogue → is_in h.entry.owed c ≡ true → key ≡ key_at h.overlays c
+    → after ≡ record h { entry = passing (knows h) h.entry key.chunk edges }
+    → edges ≡ base_at cat (edges_in bytes) c → reads' ≡ counted_times (pass_reads cat c) reads
+    → IsUnderWay (view_over h bytes) (pass_reads h.catalogue) first h.entry reads
+    → IsUnderWay (view_over h bytes) (pass_reads h.catalogue) first after.entry reads'
+chunk_passed h after bytes first c reads reads' cat key edges passes owed_is weighs plain same_cat owes is_key is content read way =
+    let chunk : key.chunk ≡ c = ap (λ (k : Key). k.chunk) (is_key ∙ ap (λ (os : List Overlay). key_at os c) plain) in
+    let same : edges ≡ base_at h.catalogue (edges_in bytes) c = content ∙ ap (λ (known : Catalogue). base_at known (edges_in bytes) c) same_cat in
+    let next : after.entry ≡ passing (view_over h bytes).known h.entry c edges =
+    ap (λ (now : Held). now.entry) is
+    ∙ ap (λ (os : List Overlay). passing (known_of h.spec h.catalogue os) h.entry key.chunk edges) plain
+    ∙ ap (λ (n : ℕ). passing (known_of h.spec h.catalogue []) h.entry n edges) chunk in
+    under_way-passes (view_over h bytes) (pass_reads h.catalogue) first h.entry after.entry c reads reads' edges passes owed_is weighs owes
+    (λ e. ap (λ (es : List Edge). count_by (is_same_edge e) es) same) next
+    (read ∙ ap (λ (known : Catalogue). counted_times (pass_reads known c) reads) same_cat) way
+
+pub stops_by : (d : JobView) (calm : Bool) (c : ℕ) (stop : Stop) → IsNeeded d c → OfChunk c stop → IsToldStop calm stop → StopsBy d calm stop
+stops_by d calm c (Read other) needed at told = (subst (IsNeeded d) (sym at) needed, told)
+stops_by d calm c (Changed other) needed at told = absurd told
+stops_by d calm c Memory needed at told = tt

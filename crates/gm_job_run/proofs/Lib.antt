@@ -1,0 +1,6 @@
+pub mod JobLemmas
+pub mod Stops
+pub mod Passing
+pub mod Turning
+pub mod Ending
+pub mod Starting

@@ -1,0 +1,159 @@
+-- A job that goes on: call after call, and pass after pass of its owed chunks.
+use Rattle.std.specs.Prelude.{◌≡◌, ℕ, zero, suc, ◌+◌, ◌≤◌, Bool, false, ◌||◌, List, [], ◌∷◌, length, slice_set, Option, Ok, Err, refl}
+use Rattle.std.proofs.Common.{inl, inr, sym, ap, ◌∙◌, subst, arith}
+use Rattle.std.proofs.lemmas.Bool.{cases_lt}
+use Rattle.std.proofs.lemmas.List.{length-set}
+use Rattle.gm_outside.specs.declared.traits.Depot as Depot
+use Rattle.gm_outside.specs.Calls.{depot_change}
+use Rattle.gm_outside.specs.Files.{Files}
+use Rattle.gm_outside.specs.FramesRules.{only_reads-none, only_reads-then}
+use Rattle.gm_label.specs.Catalogues.{Catalogue}
+use Rattle.gm_source.specs.Fetches.{TellsGrid}
+use Rattle.gm_active.specs.Bits.{is_in, NoneBetween, IsLeastBetween}
+use Rattle.gm_active.specs.BitsRules.{marked_now, marked_before, is_in_past}
+use Rattle.gm_work.specs.Entries.{Entry, owes_any}
+use Rattle.gm_base.specs.declared.job.Spec.{Spec}
+use Rattle.gm_grid.specs.GridBytes.{edges_in}
+use Rattle.gm_work.specs.Views.{JobView}
+use Rattle.gm_work.specs.Weights.{run_weight}
+use Rattle.gm_work.specs.Held.{Held, IsSameJob, grid_view}
+use Rattle.gm_job_run.specs.declared.job_run.Stop.{Stop}
+use Rattle.gm_job_run.specs.JobRuns.{IsUnderWay, StopsBy, StopFaults, IsOfChunks, ReadsSome, WhereUnderWay, StaysUnderWay, Carries, pass_reads, view_over}
+
+-- a job was under way, and is, and no call failed
+pub record GoesOn {D : Type 0} (g : Depot.Ghosts D) (old new : D) (name : List ℕ) (before after : Held) : Type 0 where
+  pub same : IsSameJob before after
+  pub faults : g.faults new ≡ g.faults old
+  pub frame : ReadsSome (depot_change g old new)
+  pub under_way : StaysUnderWay g old new name before after
+
+pub same_job : (h : Held) → IsSameJob h h
+same_job h = record { job = refl; spec = refl; catalogue = refl; overlays = refl }
+
+-- only the entry is another
+pub same_job-entry : (before after : Held) (e : Entry) → after ≡ record before { entry = e } → IsSameJob before after
+same_job-entry before after e is = record {
+  job = ap (λ (h : Held). h.job) is;
+  spec = ap (λ (h : Held). h.spec) is;
+  catalogue = ap (λ (h : Held). h.catalogue) is;
+  overlays = ap (λ (h : Held). h.overlays) is;
+}
+
+pub same_job-then : (a b c : Held) → IsSameJob a b → IsSameJob b c → IsSameJob a c
+same_job-then a b c first second = record {
+  job = second.job ∙ first.job;
+  spec = second.spec ∙ first.spec;
+  catalogue = second.catalogue ∙ first.catalogue;
+  overlays = second.overlays ∙ first.overlays;
+}
+
+same_job-back : (a b : Held) → IsSameJob a b → IsSameJob b a
+same_job-back a b same = record { job = sym same.job; spec = sym same.spec; catalogue = sym same.catalogue; overlays = sym same.overlays }
+
+pub goes_on-none : {D : Type 0} (g : Depot.Ghosts D) (depot : D) (name : List ℕ) (h : Held) → GoesOn g depot depot name h h
+goes_on-none g depot name h = record { same = same_job h; faults = refl; frame = (0, only_reads-none g depot); under_way = λ bytes first told way. way }
+
+reads_some-then : {D : Type 0} (g : Depot.Ghosts D) (old mid new : D) → ReadsSome (depot_change g old mid) → ReadsSome (depot_change g mid new) → ReadsSome (depot_change g old new)
+reads_some-then g old mid new a b = (a.0 + b.0, only_reads-then g old mid new a.0 b.0 a.1 b.1)
+
+-- what holds of the view of one moment holds of the other's
+view-to : (h other : Held) (bytes : List ℕ) (P : JobView → (ℕ → ℕ) → Type 0) → IsSameJob h other
+    → P (view_over h bytes) (pass_reads h.catalogue) → P (view_over other bytes) (pass_reads other.catalogue)
+view-to h other bytes P same p =
+    subst (λ (spec : Spec). P (grid_view spec other.catalogue (edges_in bytes)) (pass_reads other.catalogue)) (sym same.spec)
+    (subst (λ (cat : Catalogue). P (grid_view h.spec cat (edges_in bytes)) (pass_reads cat)) (sym same.catalogue) p)
+
+-- what holds after a call that began where the job had gone on to holds after both
+pub where-then : {D : Type 0} (g : Depot.Ghosts D) (old mid : D) (name : List ℕ) (h mid_h : Held) (Holds : JobView → (ℕ → ℕ) → ℕ → Type 0) → GoesOn g old mid name h mid_h
+    → WhereUnderWay g mid name mid_h Holds → WhereUnderWay g old name h Holds
+where-then g old mid name h mid_h Holds on holds bytes first told way =
+    view-to mid_h h bytes (λ d reads_of. Holds d reads_of first) (same_job-back h mid_h on.same)
+    (holds bytes first there (view-to h mid_h bytes (λ d reads_of. IsUnderWay d reads_of first mid_h.entry (g.reads mid)) on.same (on.under_way bytes first told way)))
+  where
+    there : TellsGrid (g.files mid) name mid_h.catalogue bytes
+    there =
+        subst (λ (cat : Catalogue). TellsGrid (g.files mid) name cat bytes) (sym on.same.catalogue)
+        (subst (λ (files : Option Files). TellsGrid files name h.catalogue bytes) (sym on.frame.1.files_kept) told)
+
+pub goes_on-then : {D : Type 0} (g : Depot.Ghosts D) (old mid new : D) (name : List ℕ) (h mid_h after : Held) → GoesOn g old mid name h mid_h
+    → GoesOn g mid new name mid_h after → GoesOn g old new name h after
+goes_on-then g old mid new name h mid_h after a b = record {
+  same = same_job-then h mid_h after a.same b.same;
+  faults = b.faults ∙ a.faults;
+  frame = reads_some-then g old mid new a.frame b.frame;
+  under_way = where-then g old mid name h mid_h (λ d reads_of first. IsUnderWay d reads_of first after.entry (g.reads new)) a b.under_way;
+}
+
+-- a call that was answered and after which the job is under way
+pub carries-on : {D T : Type 0} (g : Depot.Ghosts D) (old new : D) (name : List ℕ) (before after : Held) (x : T) → Carries g old new name before after (Ok x)
+    → StaysUnderWay g old new name before after → GoesOn g old new name before after
+carries-on g old new name before after x carries stays = record { same = carries.same; faults = carries.faults; frame = carries.frame; under_way = stays }
+
+-- an answer behind calls that all went well
+pub carries-done : {D T : Type 0} (g : Depot.Ghosts D) (old new : D) (name : List ℕ) (before after : Held) (x : T) → IsSameJob before after → g.faults new ≡ g.faults old
+    → ReadsSome (depot_change g old new) → Carries g old new name before after (Ok x)
+carries-done g old new name before after x same faults frame = record { same = same; chunk = tt; stops = tt; faults = faults; frame = frame }
+
+-- .. and a stop
+pub carries-stop : {D X T : Type 0} (g : Depot.Ghosts D) (old mid new : D) (name : List ℕ) (h mid_h after : Held) (stop : Stop) → GoesOn g old mid name h mid_h
+    → Carries {T = X} g mid new name mid_h after (Err stop) → Carries {T = T} g old new name h after (Err stop)
+carries-stop g old mid new name h mid_h after stop on last = record {
+  same = same_job-then h mid_h after on.same last.same;
+  chunk = subst (λ (cat : Catalogue). IsOfChunks (length cat.places) stop) on.same.catalogue last.chunk;
+  stops = where-then g old mid name h mid_h (λ d reads_of first. StopsBy d (g.calm old) stop × (g.reads new ≤ first + run_weight d reads_of)) on
+      (λ bytes first told way. let here = last.stops bytes first told way in
+      (subst (λ (calm : Bool). StopsBy (view_over mid_h bytes) calm stop) on.frame.1.calm_kept here.0, here.1));
+  faults = subst (λ (before : ℕ). StopFaults before (g.faults new) stop) on.faults last.faults;
+  frame = reads_some-then g old mid new on.frame last.frame;
+}
+
+-- ---- the passes of a phase
+
+-- so many first chunks aren't owed any more
+pub record PassesSo {D : Type 0} (g : Depot.Ghosts D) (old new : D) (name : List ℕ) (before after : Held) (end : ℕ) : Type 0 where
+  pub on : GoesOn g old new name before after
+  pub phase : after.entry.phase ≡ before.entry.phase
+  pub none : NoneBetween (is_in after.entry.owed) 0 end
+
+pub passes-none : {D : Type 0} (g : Depot.Ghosts D) (depot : D) (name : List ℕ) (h : Held) → PassesSo g depot depot name h h 0
+passes-none g depot name h = record { on = goes_on-none g depot name h; phase = refl; none = λ k low high. absurd (omega arith) }
+
+-- two stretches, one after the other
+pub none_joined : (owed : List Bool) (from chunks : ℕ) → NoneBetween (is_in owed) 0 from → NoneBetween (is_in owed) from chunks → NoneBetween (is_in owed) 0 chunks
+none_joined owed from chunks before behind k low high =
+    elim (cases_lt k from) as (λ _. is_in owed k ≡ false) [ inl early ↦ before k low early | inr late ↦ behind k late high ]
+
+none_up_to : (owed marks : List Bool) (from chunk : ℕ) → marks ≡ slice_set owed chunk false → NoneBetween (is_in owed) 0 from → NoneBetween (is_in owed) from chunk
+    → NoneBetween (is_in marks) 0 (chunk + 1)
+none_up_to owed marks from chunk is before between k low high =
+    ap (λ (m : List Bool). is_in m k) is
+    ∙ (elim (cases_lt k chunk) as (λ _. is_in (slice_set owed chunk false) k ≡ false) [
+      | inl less ↦ marked_before owed chunk k false (λ e. omega (arith, e, less)) ∙ none_joined owed from chunk before between k low less
+      | inr past ↦ at_chunk past
+    ])
+  where
+    at_chunk : chunk ≤ k → is_in (slice_set owed chunk false) k ≡ false
+    at_chunk past =
+        let here : k ≡ chunk = omega (arith, past, high) in
+        ap (is_in (slice_set owed chunk false)) here ∙ (elim (cases_lt chunk (length owed)) as (λ _. is_in (slice_set owed chunk false) chunk ≡ false) [
+          | inl within ↦ marked_now owed chunk false within
+          | inr beyond ↦ is_in_past (slice_set owed chunk false) chunk (omega (arith, beyond, length-set owed chunk false))
+        ])
+
+pub passes-next : {D : Type 0} (g : Depot.Ghosts D) (old mid new : D) (name : List ℕ) (h mid_h after : Held) (from end chunk : ℕ)
+    → PassesSo g old mid name h mid_h from → IsLeastBetween (is_in mid_h.entry.owed) from end chunk → GoesOn g mid new name mid_h after
+    → after.entry.phase ≡ mid_h.entry.phase → after.entry.owed ≡ slice_set mid_h.entry.owed chunk false
+    → PassesSo g old new name h after (chunk + 1)
+passes-next g old mid new name h mid_h after from end chunk so_far least on phase owed = record {
+  on = goes_on-then g old mid new name h mid_h after so_far.on on;
+  phase = phase ∙ so_far.phase;
+  none = none_up_to mid_h.entry.owed after.entry.owed from chunk owed so_far.none least.before;
+}
+
+-- no chunk is owed
+pub none_owed : (owed : List Bool) (chunks : ℕ) → length owed ≤ chunks → NoneBetween (is_in owed) 0 chunks → owes_any owed ≡ false
+none_owed [] chunks long none = refl
+none_owed (o ∷ owed) zero long none = absurd (omega (arith, long))
+none_owed (o ∷ owed) (suc chunks) long none =
+    ap (λ (b : Bool). b || owes_any owed) (none 0 (omega arith) (omega arith))
+    ∙ none_owed owed chunks (omega (arith, long)) (λ k low high. none (suc k) (omega arith) (omega (arith, high)))

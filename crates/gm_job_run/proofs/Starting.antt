@@ -1,0 +1,32 @@
+-- A job from its admission on.
+use Rattle.std.specs.Prelude.{◌≡◌, ℕ, ◌≤◌, List, [], Result, Ok, Err, IfOk}
+use Rattle.std.proofs.Common.{ap, ◌∙◌, subst}
+use Rattle.gm_base.specs.declared.job.Spec.{Spec}
+use Rattle.gm_outside.specs.declared.traits.Depot as Depot
+use Rattle.gm_grid.specs.GridBytes.{edges_in}
+use Rattle.gm_kernel.specs.Runs.{most_rounds}
+use Rattle.gm_label.specs.declared.chunk.Overlay.{Overlay}
+use Rattle.gm_label.specs.Catalogues.{Catalogue}
+use Rattle.gm_source.specs.Fetches.{TellsGrid}
+use Rattle.gm_work.specs.Views.{JobView, first_standing}
+use Rattle.gm_work.specs.Weights.{run_weight, weight_left}
+use Rattle.gm_work.specs.Held.{Held, admitted, grid_view}
+use Rattle.gm_job_run.specs.JobRuns.{WhereUnderWay, pass_reads}
+use Rattle.gm_job_run.proofs.JobLemmas.{Begins, under_way-begins}
+
+abbrev pub WeightBegins : Type 0
+WeightBegins = (d : JobView) (weight : ℕ → ℕ) → 1 ≤ most_rounds d.known.spec → weight_left d weight (first_standing d) ≡ run_weight d weight
+
+-- what holds after a call on a job that was just admitted, over a depot that tells the grid
+pub where-admitted : {D : Type 0} (g : Depot.Ghosts D) (depot : D) (name : List ℕ) (h : Held) (spec : Spec) (cat : Catalogue) (overlays : List Overlay) (bytes : List ℕ)
+    (Holds : JobView → (ℕ → ℕ) → ℕ → Type 0) → h ≡ admitted 0 spec cat overlays → overlays ≡ [] → 1 ≤ most_rounds spec → Begins → WeightBegins
+    → TellsGrid (g.files depot) name cat bytes → WhereUnderWay g depot name h Holds → Holds (grid_view spec cat (edges_in bytes)) (pass_reads cat) (g.reads depot)
+where-admitted g depot name h spec cat overlays bytes Holds is none some begins weighs told holds =
+    let plain : h ≡ admitted 0 spec cat [] = is ∙ ap (admitted 0 spec cat) none in
+    let d = grid_view spec cat (edges_in bytes) in
+    subst (λ (k : Held). WhereUnderWay g depot name k Holds) plain holds bytes (g.reads depot) told
+    (under_way-begins d (pass_reads cat) (g.reads depot) some begins (weighs d (pass_reads cat) some))
+
+pub ok_weaker : {X E : Type 0} (P Q : X → Type 0) (r : Result X E) → ((x : X) → P x → Q x) → IfOk r P → IfOk r Q
+ok_weaker P Q (Ok x) each ok = each x ok
+ok_weaker P Q (Err e) each ok = tt

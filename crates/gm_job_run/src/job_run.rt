@@ -1,0 +1,209 @@
+//! One job over a depot's chunks.
+
+ghost use Rattle.std.specs.Prelude.{◌≡◌, ◌≤◌, ◌<◌, ◌+◌, ℕ, List, [], true, false, length, slice_set, All, IfOk, IfErr, OnOk, OnErr, Some, None, MatchResult, IsTrue, Err};
+ghost use Rattle.std.specs.Arc.{arc_value};
+ghost use Rattle.gm_outside.specs.Causes.{counted_times, Rose};
+ghost use Rattle.gm_base.specs.Graph.{HasEndsBelow};
+ghost use Rattle.gm_outside.specs.Calls.{depot_change};
+ghost use Rattle.gm_outside.specs.Frames.{OnlyReads};
+ghost use Rattle.gm_grid.specs.GridBytes.{edges_in};
+ghost use Rattle.gm_label.specs.Catalogues.{base_at};
+ghost use Rattle.gm_source.specs.Fetches.{TellsGrid};
+ghost use Rattle.gm_job_run.specs.JobRuns.{pass_reads, StaysUnderWay, TurnsFor, Carries, HasEnded, StopFaults, OfChunk, IsToldStop, ReadsSome, IsOfChunks, JobEnds, FaultsFor, outcome_of_stop, outcome_of_turn, stop_of};
+ghost use Rattle.gm_kernel.specs.Runs.{most_rounds};
+ghost use Rattle.gm_active.specs.Bits.{is_in};
+ghost use Rattle.gm_work.specs.Entries.{owes_any};
+ghost use Rattle.gm_work.specs.Held.{grid_view};
+ghost use Rattle.gm_work.specs.Weights.{run_weight};
+
+use gm_base::{ChunkCopy, Edges, Memory, Outcome, Spec, Turned};
+use gm_label::{Catalogue, Overlays};
+use gm_outside::Depot;
+use gm_source::laws::catalogues_are_over_their_edges;
+use gm_source::{FetchError, fetch};
+use gm_work::Work;
+use gm_work::laws::{
+    begins, determined, grids_are_cut, owed_chunks, passes, turns, turns_end, weight_is_left,
+};
+use std::alloc::Global;
+use std::sync::Arc;
+
+/// Why a job stopped before its end.
+#[derive(Drop)]
+pub(crate) enum Stop {
+    /// A chunk that it owed couldn't be read.
+    Read { chunk: u32 },
+    /// A chunk that it owed is another than when the grid was opened.
+    Changed { chunk: u32 },
+    /// There was no memory.
+    Memory,
+}
+
+/// Why a fetch of a chunk stops its job.
+fn stop_of(chunk: u32, error: FetchError) -> Stop
+    ensures { result ≡ stop_of chunk error }
+{
+    match error {
+        FetchError::Fault => Stop::Read { chunk },
+        FetchError::Changed { .. } => Stop::Changed { chunk },
+        FetchError::Memory => Stop::Memory,
+    }
+}
+
+/// The edges of a chunk, fetched for a job.
+fn fetch_edges<D: Depot>(
+    alloc: Global,
+    depot: &mut D,
+    chunk: u32,
+    name: &str,
+    cat: &Catalogue,
+) -> Result<Edges, Stop>
+    requires { chunk < length cat.now.places }
+    ensures ends { IfOk result (All (HasEndsBelow cat.now.dimensions.n)) }
+    ensures told { (bytes : List ℕ) → TellsGrid (D.files depot.old) name.now cat.now bytes
+        → IfOk result (λ edges. edges ≡ base_at cat.now (edges_in bytes) chunk) }
+    ensures told_stop { (bytes : List ℕ) → TellsGrid (D.files depot.old) name.now cat.now bytes → IfErr result (IsToldStop (D.calm depot.old)) }
+    ensures stop { IfErr result (OfChunk chunk) }
+    ensures read { OnOk result (D.reads depot.new ≡ counted_times (pass_reads cat.now chunk) (D.reads depot.old)) }
+    ensures faults { MatchResult result (λ edges. D.faults depot.new ≡ D.faults depot.old) (StopFaults (D.faults depot.old) (D.faults depot.new)) }
+    ensures frame { OnlyReads (pass_reads cat.now chunk) (depot_change ⟦<D as Depot>⟧ depot.old depot.new) }
+{
+    match fetch(alloc, depot, name, cat, chunk) {
+        Ok(raw) => Ok(raw.edges),
+        Err(error) => Err(stop_of(chunk, error)),
+    }
+}
+
+/// Fetches a chunk that the job owes, and passes it.
+fn pass_chunk<D: Depot>(
+    alloc: Global,
+    depot: &mut D,
+    name: &str,
+    work: &mut Work,
+    chunk: u32,
+) -> Result<(), Stop>
+    requires within { chunk < length work.old.catalogue.places }
+    requires owed { is_in work.old.entry.owed chunk ≡ true }
+    requires plain { work.old.overlays ≡ [] }
+    ensures phase { work.new.entry.phase ≡ work.old.entry.phase }
+    ensures less { OnOk result (work.new.entry.owed ≡ slice_set work.old.entry.owed chunk false) }
+    ensures under_way { OnOk result (StaysUnderWay ⟦<D as Depot>⟧ depot.old depot.new name.now work.old work.new) }
+    ensures carries { Carries ⟦<D as Depot>⟧ depot.old depot.new name.now work.old work.new result }
+{
+    passes();
+    determined();
+    owed_chunks();
+    weight_is_left();
+    let edges = fetch_edges(alloc, depot, chunk, name, work.catalogue())?;
+    let key = work.key(chunk);
+    work.pass(&ChunkCopy { key, edges });
+    Ok(())
+}
+
+/// Passes every chunk that the job owes in its phase, the least first.
+fn pass_owed<D: Depot>(
+    alloc: Global,
+    depot: &mut D,
+    name: &str,
+    work: &mut Work,
+) -> Result<(), Stop>
+    requires { work.old.overlays ≡ [] }
+    ensures phase { work.new.entry.phase ≡ work.old.entry.phase }
+    ensures none { OnOk result (owes_any work.new.entry.owed ≡ false) }
+    ensures under_way { OnOk result (StaysUnderWay ⟦<D as Depot>⟧ depot.old depot.new name.now work.old work.new) }
+    ensures carries { Carries ⟦<D as Depot>⟧ depot.old depot.new name.now work.old work.new result }
+{
+    let chunks = work.catalogue().chunks();
+    let mut from = 0;
+    while let Some(chunk) = work.least_owed(from, chunks) {
+        pass_chunk(alloc, depot, name, work, chunk)?;
+        from = chunk + 1;
+    }
+    Ok(())
+}
+
+/// Makes the phases of a job up to its end: each passes what the job owes, and turns it. The answer is the turn that ended it.
+fn make_phases<D: Depot>(
+    alloc: Global,
+    depot: &mut D,
+    name: &str,
+    work: &mut Work,
+) -> Result<Turned, Stop>
+    requires { work.old.overlays ≡ [] }
+    ensures ended { IfOk result HasEnded }
+    ensures carries { Carries ⟦<D as Depot>⟧ depot.old depot.new name.now work.old work.new result }
+    ensures turned { IfOk result (TurnsFor ⟦<D as Depot>⟧ depot.old depot.new name.now work.old work.new) }
+{
+    turns();
+    turns_end();
+    weight_is_left();
+    grids_are_cut();
+    catalogues_are_over_their_edges();
+    loop {
+        pass_owed(alloc, depot, name, work)?;
+        match work.turn() {
+            Turned::Owes => {}
+            ended => return Ok(ended),
+        }
+    }
+}
+
+/// What becomes of a job that stopped: a line that tells the chunk and its block, or want of memory.
+fn outcome_of_stop(cat: &Catalogue, stop: Stop) -> Result<Outcome, Memory>
+    requires { IsOfChunks (length cat.now.places) stop }
+    ensures ok { IfOk result (λ outcome. Some outcome ≡ outcome_of_stop cat.now stop) }
+    ensures err { OnErr result (outcome_of_stop cat.now stop ≡ None) }
+{
+    match stop {
+        Stop::Read { chunk } => Ok(Outcome::Read {
+            block: cat.chunk(chunk).block,
+            chunk,
+        }),
+        Stop::Changed { chunk } => Ok(Outcome::Changed {
+            block: cat.chunk(chunk).block,
+            chunk,
+        }),
+        Stop::Memory => Err(Memory),
+    }
+}
+
+/// What became of a job that a turn ended.
+fn outcome_of_turn(turned: Turned, work: Work) -> Outcome
+    requires { HasEnded turned }
+    ensures { result ≡ outcome_of_turn work.entry.values turned }
+{
+    match turned {
+        Turned::Owes => unreachable!(),
+        Turned::Done { rounds } => Outcome::Done {
+            rounds,
+            values: work.into_values(),
+        },
+        Turned::Bound { bound } => Outcome::Rounds { bound },
+    }
+}
+
+/// Runs a job over the chunks of a grid, each fetched where it is needed, up to the job's end or to the first chunk that can't be had.
+pub fn run_job<D: Depot>(
+    alloc: Global,
+    depot: &mut D,
+    name: &str,
+    cat: Arc<Catalogue>,
+    spec: Spec,
+) -> Result<Outcome, Memory>
+    requires some { 1 ≤ most_rounds spec }
+    ensures ends { (bytes : List ℕ) → TellsGrid (D.files depot.old) name.now (arc_value cat) bytes
+        → IfOk result (JobEnds (grid_view spec (arc_value cat) (edges_in bytes)) (pass_reads (arc_value cat))
+        (depot_change ⟦<D as Depot>⟧ depot.old depot.new)) }
+    ensures few { (bytes : List ℕ) → TellsGrid (D.files depot.old) name.now (arc_value cat) bytes
+        → D.reads depot.new ≤ D.reads depot.old + run_weight (grid_view spec (arc_value cat) (edges_in bytes)) (pass_reads (arc_value cat)) }
+    ensures faults { MatchResult result (FaultsFor (D.faults depot.old) (D.faults depot.new)) (λ _. D.faults depot.new ≡ D.faults depot.old) }
+    ensures frame { ReadsSome (depot_change ⟦<D as Depot>⟧ depot.old depot.new) }
+{
+    begins();
+    weight_is_left();
+    let mut work = Work::admit(alloc, 0, spec, cat, Overlays::new(alloc))?;
+    match make_phases(alloc, depot, name, &mut work) {
+        Ok(turned) => Ok(outcome_of_turn(turned, work)),
+        Err(stop) => outcome_of_stop(work.catalogue(), stop),
+    }
+}

@@ -1,0 +1,106 @@
+-- What follows from the files that a run loaded.
+use Rattle.std.specs.Prelude.{◌≡◌, ℕ, ◌+◌, ◌≤◌, List, Option, Some, None, IfSome, IsSomeAnd, Ok, Err, refl}
+use Rattle.std.specs.FinMap.{get}
+use Rattle.std.proofs.Common.{sym, ap, ◌∙◌, subst}
+use Rattle.gm_outside.specs.declared.traits.Depot as Depot
+use Rattle.gm_outside.specs.Calls.{depot_change}
+use Rattle.gm_outside.specs.Files.{Files}
+use Rattle.gm_grid.specs.Format.{IsGrid, dimensions_of}
+use Rattle.gm_grid.specs.GridBytes.{shape_in}
+use Rattle.gm_base.specs.declared.edge.Edge.{Edge}
+use Rattle.gm_label.specs.Catalogues.{Catalogue}
+use Rattle.gm_source.specs.Openings.{IsTold, IsCatalogueOf}
+use Rattle.gm_base.specs.declared.job.Spec.{Spec}
+use Rattle.gm_base.specs.declared.job.Spec.TheVariants.{Bfs, Sssp, Wcc, Rank}
+use Rattle.gm_kernel.specs.Runs.{most_rounds}
+use Rattle.gm_jobs.specs.JobBounds.{MakesSomeRound}
+use Rattle.gm_jobs.specs.declared.stated_job.Job.{Job}
+use Rattle.gm_commands.specs.Commands.{RunCommand}
+use Rattle.gm_base.specs.declared.limits.TheConstants.{MAX_CHUNKS}
+use Rattle.gm_outside.specs.Frames.{DepotChange}
+use Rattle.gm_commands.specs.declared.failure.Failure.{Failure}
+use Rattle.gm_commands.specs.declared.failure.Operand.TheVariants.{Edges, Grid, Jobs}
+use Rattle.gm_commands.specs.Readings.{Reading, ReadsFiles}
+use Rattle.gm_commands.specs.ReadingsRules.{AreApart, reads_files-then, reads_files-same}
+use Rattle.gm_tools.specs.Grids.{grid_reading}
+use Rattle.gm_top.specs.RunReadings.{HoldsRun, TellsJob, files_reading, jobs_reading, jobs_reading_by_grid, vertices_of_file}
+
+there : {P : List ℕ → Type 0} (found : Option (List ℕ)) → IsSomeAnd found P → (bytes : List ℕ) × (found ≡ Some bytes) × P bytes
+there None told = absurd told
+there (Some bytes) told = (bytes, refl, told)
+
+-- both files were loaded from the same ones
+pub holds_run : (told told' : Option Files) (command : RunCommand) (cat : Catalogue) (n : ℕ) (job : Job) → told' ≡ told → n ≡ cat.dimensions.n
+    → IsTold told command.grid (λ bytes. IsCatalogueOf bytes command.chunk cat) → IfSome told' (λ held. TellsJob held command.jobs n job)
+    → IfSome told (λ held. HoldsRun command held cat job)
+holds_run None told' command cat n job same count grid tells = tt
+holds_run (Some held) told' command cat n job same count grid tells =
+    let here = there (get held command.grid) grid in
+    let jobs = subst (λ (told : Option Files). IfSome told (λ files. TellsJob files command.jobs n job)) same tells in
+    record {
+      bytes = here.0;
+      grid_file = here.1;
+      grid = here.2;
+      jobs = subst (λ (m : ℕ). TellsJob held command.jobs m job) count jobs;
+    }
+
+-- the law of a grid's shape
+abbrev pub Shapes : Type 0
+Shapes = (bytes : List ℕ) (n parts : ℕ) (blocks : List (List Edge)) → IsGrid bytes n parts blocks → shape_in bytes ≡ dimensions_of n parts
+
+-- the jobs' reading goes by as many vertices as the grid's file tells
+pub by_grid : (told : Option Files) (command : RunCommand) (cat : Catalogue) (n : ℕ) → Shapes → n ≡ cat.dimensions.n
+    → IsTold told command.grid (λ bytes. IsCatalogueOf bytes command.chunk cat)
+    → IfSome told (λ held. (jobs_reading_by_grid command).refusal held ≡ (jobs_reading command n).refusal held)
+by_grid None command cat n shapes count grid = tt
+by_grid (Some held) command cat n shapes count grid =
+    let here = there (get held command.grid) grid in
+    let is = here.2 in
+    let vertices : vertices_of_file (get held command.grid) ≡ n =
+    ap vertices_of_file here.1
+    ∙ ap (λ d. d.n) (shapes here.0 is.n is.parts is.blocks is.grid)
+    ∙ sym (count ∙ ap (λ (known : Catalogue). known.dimensions.n) is.all) in
+    ap (λ (m : ℕ). (jobs_reading command m).refusal held) vertices
+
+-- the two files of a run are two
+apart : (command : RunCommand) → AreApart (grid_reading command.grid command.chunk) (jobs_reading_by_grid command)
+apart command Edges reads = refl
+apart command Grid reads = absurd cc
+apart command Jobs reads = refl
+
+-- the same reading with another answer of the same kind
+reads-ok : {X Y : Type 0} (most : ℕ) (reading : Reading) (depot : DepotChange) (x : X) (y : Y) → ReadsFiles most reading depot (Ok x) → ReadsFiles most reading depot (Ok y)
+reads-ok most reading depot x y a = record { frame = a.frame; ok = a.ok; err = tt }
+
+reads-err : {X Y : Type 0} (most : ℕ) (reading : Reading) (depot : DepotChange) (failure : Failure) → ReadsFiles {T = X} most reading depot (Err failure)
+    → ReadsFiles {T = Y} most reading depot (Err failure)
+reads-err most reading depot failure a = record { frame = a.frame; ok = tt; err = a.err }
+
+-- the grid was opened, and then the job text was read, or couldn't be
+pub loaded : {D X Y : Type 0} (g : Depot.Ghosts D) (old mid new : D) (command : RunCommand) (cat : Catalogue) (n : ℕ) (x : X) (y : Y) → Shapes → n ≡ cat.dimensions.n
+    → IsTold (g.files old) command.grid (λ bytes. IsCatalogueOf bytes command.chunk cat)
+    → ReadsFiles (2 + MAX_CHUNKS) (grid_reading command.grid command.chunk) (depot_change g old mid) (Ok cat)
+    → ReadsFiles 1 (jobs_reading command n) (depot_change g mid new) (Ok x)
+    → ReadsFiles (3 + MAX_CHUNKS) (files_reading command) (depot_change g old new) (Ok y)
+loaded g old mid new command cat n x y shapes count grid first second =
+    let told = subst (λ (files : Option Files). IsTold files command.grid (λ bytes. IsCatalogueOf bytes command.chunk cat)) (sym first.frame.files_kept) grid in
+    let by_file = reads_files-same g mid new 1 (jobs_reading command n) (jobs_reading_by_grid command).refusal (Ok x) (by_grid (g.files mid) command cat n shapes count told) second in
+    reads_files-then g old mid new (2 + MAX_CHUNKS) 1 (grid_reading command.grid command.chunk) (jobs_reading_by_grid command) cat (Ok y) (apart command) first
+    (reads-ok 1 (jobs_reading_by_grid command) (depot_change g mid new) x y by_file)
+
+pub not_loaded : {D X Y : Type 0} (g : Depot.Ghosts D) (old mid new : D) (command : RunCommand) (cat : Catalogue) (n : ℕ) (failure : Failure) → Shapes → n ≡ cat.dimensions.n
+    → IsTold (g.files old) command.grid (λ bytes. IsCatalogueOf bytes command.chunk cat)
+    → ReadsFiles (2 + MAX_CHUNKS) (grid_reading command.grid command.chunk) (depot_change g old mid) (Ok cat)
+    → ReadsFiles {T = X} 1 (jobs_reading command n) (depot_change g mid new) (Err failure)
+    → ReadsFiles {T = Y} (3 + MAX_CHUNKS) (files_reading command) (depot_change g old new) (Err failure)
+not_loaded {X = X} {Y = Y} g old mid new command cat n failure shapes count grid first second =
+    let told = subst (λ (files : Option Files). IsTold files command.grid (λ bytes. IsCatalogueOf bytes command.chunk cat)) (sym first.frame.files_kept) grid in
+    let by_file = reads_files-same {T = X} g mid new 1 (jobs_reading command n) (jobs_reading_by_grid command).refusal (Err failure) (by_grid (g.files mid) command cat n shapes count told) second in
+    reads_files-then g old mid new (2 + MAX_CHUNKS) 1 (grid_reading command.grid command.chunk) (jobs_reading_by_grid command) cat (Err failure) (apart command) first
+    (reads-err {X = X} {Y = Y} 1 (jobs_reading_by_grid command) (depot_change g mid new) failure by_file)
+
+pub some_rounds : (spec : Spec) → MakesSomeRound spec → 1 ≤ most_rounds spec
+some_rounds (Bfs source bound) some = some
+some_rounds (Sssp source bound) some = some
+some_rounds (Wcc bound) some = some
+some_rounds (Rank rounds) some = some

@@ -1,0 +1,22 @@
+use Rattle.std.specs.Prelude.{List, [], ◌∷◌}
+use Rattle.std.proofs.Common.{subst}
+use Rattle.gm_base.specs.declared.job.JobLine.{JobLine}
+use Rattle.gm_outside.specs.Growth.{GrewBy}
+use Rattle.gm_report.specs.Report.{report_text}
+use Rattle.gm_top.proofs.run_call.run.Goals as goal
+
+pub returns-in-Ok-clause-handles : goal.returns-in-Ok-clause-handles
+returns-in-Ok-clause-handles g c = record {
+  taken = c.in_ok-line.ensures.taken;
+  performs = record {
+    report = record {
+      lines = c.in_ok-line.line ∷ [];
+      reported = c.in_ok-line.ensures.line;
+      written = subst (λ (lines : List JobLine). GrewBy (g.K.Sink.written c.args.out.now) (g.K.Sink.written c.write.new.out) (report_text lines)) c.from_ref.ensures.value c.in-Ok.ensures.ok;
+    };
+    status_is = c.status_after.ensures.value;
+  };
+  served = (tt, c.in-Ok.ensures.causes.fault.kept (λ is. cc));
+  cause = tt;
+  leaves = tt;
+}

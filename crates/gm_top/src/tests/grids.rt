@@ -1,0 +1,155 @@
+//! Files that are no grid, or nearly none, each in a run.
+use super::{PATH, REPORT, RUN, check_end, padded, run_over};
+use std::test::Fail;
+
+/// The report over the grid with this byte changed in its lowest bit, where it is a grid still: worked out apart from the program.
+fn report_with_byte_changed(place: usize) -> Option<&'static [u8]> {
+    match place {
+        48 | 52 => Some(b"job a version 0 done rounds 3\n0 0\n1 -\n2 1\n3 2\n"),
+        72 => Some(b"job a version 0 done rounds 4\n0 0\n1 1\n2 2\n3 3\n"),
+        76 => Some(b"job a version 0 done rounds 3\n0 0\n1 1\n2 2\n3 1\n"),
+        84 | 88 => Some(b"job a version 0 done rounds 2\n0 0\n1 1\n2 1\n3 -\n"),
+        56..=60 | 64 | 68..=71 | 80..=83 | 92..=95 => Some(REPORT),
+        _ => None,
+    }
+}
+
+/// The file with one byte changed in its lowest bit.
+fn changed_at(rt: &HostRuntime, place: usize) -> Result<Vec<u8>, Fail> {
+    let mut bytes = PATH.to_vec(rt.alloc())?;
+    if place < bytes.len() {
+        bytes[place] ^= 1;
+    }
+    Ok(bytes)
+}
+
+/// The front of the file.
+pub(super) fn cut_at(place: usize) -> &'static [u8] {
+    let file = PATH;
+    if place < file.len() {
+        &file[..place]
+    } else {
+        file
+    }
+}
+
+/// What is wrong with the grid with this byte changed in its lowest bit, where it is none: worked out apart from the program.
+fn refusal_with_byte_changed(place: usize) -> &'static str {
+    match place {
+        0..=7 => "bad magic",
+        8..=10 => "bad edge 1",
+        11 => "bad shape n 16777220 parts 2",
+        12 => "too many edges 30064771084",
+        13 => "bad shape n 4 parts 258",
+        14 => "bad shape n 4 parts 65538",
+        15 => "bad shape n 4 parts 16777218",
+        16 | 40 => "size 96, expected 84",
+        24 | 32 => "size 96, expected 108",
+        17 | 25 | 33 | 41 => "size 96, expected 3168",
+        18 | 26 | 34 | 42 => "size 96, expected 786528",
+        19 | 27 | 35 | 43 => "too many edges 16777220",
+        20 | 28 | 36 | 44 => "too many edges 4294967300",
+        21 | 29 | 37 | 45 => "too many edges 1099511627780",
+        22 | 30 | 38 | 46 => "too many edges 281474976710660",
+        23 | 31 | 39 | 47 => "too many edges 72057594037927940",
+        48..=59 => "bad edge 0",
+        60..=71 => "bad edge 1",
+        72..=83 => "bad edge 2",
+        _ => "bad edge 3",
+    }
+}
+
+#[test]
+fn each_byte_of_the_grid_counts(rt: HostRuntime) -> Result<(), Fail> {
+    for place in 0..96 {
+        let end = run_over(&rt, RUN, &changed_at(&rt, place)?)?;
+        let refusal = refusal_with_byte_changed(place);
+        let line = format!(in rt.alloc(); "graphm: a.grid: {refusal}\n")?;
+        let expected = match report_with_byte_changed(place) {
+            Some(report) => (0, report, b"".as_slice()),
+            None => (4, b"".as_slice(), line.as_bytes()),
+        };
+        let case = format!(in rt.alloc(); "at {place}")?;
+        check_end(&rt, &end, expected, &case);
+    }
+    Ok(())
+}
+
+#[test]
+fn each_cut_of_the_grid_is_refused(rt: HostRuntime) -> Result<(), Fail> {
+    for size in 0..96 {
+        let cut = run_over(&rt, RUN, cut_at(size))?;
+        let expected = match size {
+            0..=15 => 16,
+            16..=47 => 48,
+            _ => 96,
+        };
+        let line = format!(in rt.alloc(); "graphm: a.grid: size {size}, expected {expected}\n")?;
+        check_end(&rt, &cut, (4, b"", line.as_bytes()), &line);
+    }
+    Ok(())
+}
+
+/// The front of a file that has zeros behind it, its length, how many reads are made, and what is wrong with the file.
+const REFUSED_GRIDS: [(&[u8], usize, u64, &str); 9] = [
+    (
+        b"GGRID001\0\0\0\0\x02\0\0\0",
+        96,
+        1,
+        "bad shape n 0 parts 2",
+    ),
+    (
+        b"GGRID001\x01\0\x10\0\x01\0\0\0",
+        24,
+        1,
+        "bad shape n 1048577 parts 1",
+    ),
+    (
+        b"GGRID001\x64\0\0\0\x41\0\0\0",
+        33_816,
+        1,
+        "bad shape n 100 parts 65",
+    ),
+    (
+        b"GGRID001\x01\0\0\0\x02\0\0\0",
+        48,
+        1,
+        "bad shape n 1 parts 2",
+    ),
+    (
+        b"GGRID001\x04\0\0\0\x02\0\0\0\0\0\0\0\0\0\0\x80\0\0\0\0\0\0\0\x80\0\0\0\0\0\0\0\0\x01",
+        96,
+        2,
+        "too many edges 18446744073709551617",
+    ),
+    (
+        b"GGRID001\x01\0\0\0\x01\0\0\0\x01\0\0\x01",
+        24,
+        2,
+        "too many edges 16777217",
+    ),
+    (
+        b"GGRID001\x01\0\0\0\x01\0\0\0\0\0\0\x01",
+        24,
+        2,
+        "size 24, expected 201326616",
+    ),
+    (PATH, 97, 2, "size 97, expected 96"),
+    (
+        b"GGRID001\x01\0\0\0\x01\0\0\0\x01\0\x10",
+        12_582_948,
+        2,
+        "too many chunks 1048577",
+    ),
+];
+
+#[test]
+fn grids_past_the_limits_are_refused(rt: HostRuntime) -> Result<(), Fail> {
+    for (front, length, reads, refusal) in REFUSED_GRIDS {
+        let end = run_over(&rt, RUN, &padded(&rt, front, length, 0)?)?;
+        let line = format!(in rt.alloc(); "graphm: a.grid: {refusal}\n")?;
+        check_end(&rt, &end, (4, b"", line.as_bytes()), refusal);
+        assert_eq!(rt; end.depot.reads(), reads, "{refusal}");
+    }
+    Ok(())
+}

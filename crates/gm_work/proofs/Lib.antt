@@ -1,0 +1,14 @@
+pub mod Lists
+pub mod Rounds
+pub mod Counting
+pub mod MidRound
+pub mod Turns
+pub mod Weights
+pub mod Grids
+pub mod Standings
+pub mod OverlayPlaces
+pub mod NeededChunks
+pub mod Passing
+pub mod Beginning
+pub mod Admitting
+pub mod Turning

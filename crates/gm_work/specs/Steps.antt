@@ -1,0 +1,38 @@
+-- The steps of a job from phase to phase.
+use Rattle.std.specs.Prelude.{◌≡◌, ℕ, ◌==◌, false, replicate}
+use Rattle.gm_base.specs.declared.job.Outcome.TheVariants.{Done as DoneRun, Rounds as RoundsRun}
+use Rattle.gm_base.specs.declared.job.Turned.{Turned}
+use Rattle.gm_base.specs.declared.job.Turned.TheVariants.{Owes, Done, Bound}
+use Rattle.gm_work.specs.declared.phase.Phase.TheVariants.{Counting, Round}
+use Rattle.gm_work.specs.Entries.{Known, Entry, each_vertex, initial_values, carried, needed_from, phase_ended}
+use Rattle.gm_work.specs.Entries.Turning.{Goes, Ends}
+
+-- what the end of one phase answers, by the entries before and after it: the job goes on, whether or not it owes a chunk, or it ended
+abbrev pub IsPhaseEnded : Known → Entry → Turned → Entry → Type 0
+IsPhaseEnded k before Owes after = phase_ended k before ≡ Goes after
+IsPhaseEnded k before (Done rounds) after = phase_ended k before ≡ Ends (DoneRun rounds after.values)
+IsPhaseEnded k before (Bound bound) after = phase_ended k before ≡ Ends (RoundsRun bound)
+
+-- the round of this number begins from the values as they are
+abbrev pub with_round : Known → ℕ → Entry → Entry
+with_round k r e = record e { phase = Round r; owed = needed_from k (r == 0) e.values e.values e.degrees }
+
+-- the round of this number begins from the sums of the one before
+abbrev pub with_next_round : Known → ℕ → Entry → Entry
+with_next_round k r e = record {
+  phase = Round r;
+  values = e.sums;
+  sums = carried k e.sums;
+  degrees = e.degrees;
+  owed = needed_from k false e.values e.sums e.degrees;
+}
+
+-- a job that has its lists, and owes nothing yet
+abbrev pub unbegun_entry : Known → Entry
+unbegun_entry k = record {
+  phase = Counting 0;
+  values = initial_values k;
+  sums = carried k (initial_values k);
+  degrees = each_vertex k (λ u. 0);
+  owed = replicate k.chunks false;
+}
