@@ -2,13 +2,13 @@
 use Rattle.std.specs.Prelude.{◌≡◌, ◌≤◌, ℕ, List, IsTrue, ◌⊎◌, Option, Some, None, IfSome, Result, OnOk, IfOk, IfErr}
 use Rattle.gm_outside.specs.Causes.{Rose}
 use Rattle.gm_outside.specs.Frames.{DepotChange, SinkChange}
+use Rattle.gm_words.specs.Commands.{Command}
 use Rattle.gm_commands.specs.declared.failure.Refusal.{Refusal}
 use Rattle.gm_commands.specs.declared.failure.Failure.{Failure}
 use Rattle.gm_commands.specs.declared.failure.Failure.TheVariants.{Refused, ReadFailed, WriteFailed, OutputFailed, OutOfMemory}
-use Rattle.gm_commands.specs.Commands.{Command}
 use Rattle.gm_commands.specs.Failures.{status_of, refusal_status}
 use Rattle.gm_commands.specs.Readings.{Reading, AreTaken, DepotFailed, DepotServed, ServedUnless, IsReadingFailure}
-use Rattle.gm_commands.specs.StandardError.{error_line, usage_line, IsSaid, SaysNothing}
+use Rattle.gm_commands.specs.StandardError.{error_line, usage_line, out_of_memory_line, IsSaid, SaysNothing}
 
 -- A call: its words, what it did to the depot, to standard output and to standard error, and its status.
 pub record CommandCall : Type 0 where
@@ -83,10 +83,21 @@ pub record HasFailed (reading : Command → Reading) (Leaves : Command → Depot
   pub leaves : Leaves command call.depot call.out failure
   pub line : IsSaid (error_line command failure) call.err
 
--- the words are no command
+-- the words are no command: nothing was asked or written but the line that says how the program is called
 pub record IsUsageCall (call : CommandCall) : Type 0 where
+  pub status_is : call.status ≡ 2
   pub nothing : AsksNothing call.depot call.out
   pub line : IsSaid usage_line call.err
+
+-- there was no memory to read the words: nothing was asked or written but the line that says so
+pub record LacksWords (call : CommandCall) : Type 0 where
+  pub status_is : call.status ≡ 8
+  pub nothing : AsksNothing call.depot call.out
+  pub line : IsSaid out_of_memory_line call.err
+
+-- what a call does whose words are no command. Whether they are one is known only with memory to read them
+abbrev pub RefusesWords : CommandCall → Type 0
+RefusesWords call = IsUsageCall call ⊎ LacksWords call
 
 -- neither standard output's faults rose, nor the depot's, unless it is calm
 pub record IsUndisturbed (depot : DepotChange) (out : SinkChange) : Type 0 where

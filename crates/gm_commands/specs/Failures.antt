@@ -6,10 +6,13 @@ use Rattle.gm_edges.specs.declared.edge_error.EdgeListRefusal.{EdgeListRefusal}
 use Rattle.gm_edges.specs.declared.edge_error.EdgeListRefusal.TheVariants as edge_list
 use Rattle.gm_grid.specs.declared.grid_error.GridError.{GridError}
 use Rattle.gm_grid.specs.declared.grid_error.GridError.TheVariants as grid
+use Rattle.gm_jobs.specs.declared.jobs_error.JobsRefusal.{JobsRefusal}
+use Rattle.gm_jobs.specs.declared.jobs_error.JobsRefusal.TheVariants as jobs
+use Rattle.gm_jobs.specs.JobsErrors.{text_of as why_text}
 use Rattle.gm_commands.specs.declared.failure.Operand.{Operand}
 use Rattle.gm_commands.specs.declared.failure.Operand.TheVariants.{Edges, Grid as TheGrid, Jobs}
 use Rattle.gm_commands.specs.declared.failure.Refusal.{Refusal}
-use Rattle.gm_commands.specs.declared.failure.Refusal.TheVariants.{Missing, Grid, EdgeList, NotBuiltYet}
+use Rattle.gm_commands.specs.declared.failure.Refusal.TheVariants.{Missing, Grid, EdgeList, JobText, NotBuiltYet}
 use Rattle.gm_commands.specs.declared.failure.Failure.{Failure}
 use Rattle.gm_commands.specs.declared.failure.Failure.TheVariants.{Refused, ReadFailed, WriteFailed, OutputFailed, OutOfMemory}
 
@@ -17,6 +20,7 @@ abbrev pub refusal_status : Refusal → ℕ
 refusal_status (Missing operand) = 3
 refusal_status (Grid error) = 4
 refusal_status (EdgeList refusal) = 4
+refusal_status (JobText refusal) = 5
 refusal_status NotBuiltYet = 5
 
 abbrev pub status_of : Failure → ℕ
@@ -36,6 +40,7 @@ abbrev pub refused_operand : Refusal → Operand
 refused_operand (Missing operand) = operand
 refused_operand (Grid error) = TheGrid
 refused_operand (EdgeList refusal) = Edges
+refused_operand (JobText refusal) = Jobs
 refused_operand NotBuiltYet = Jobs
 
 -- the file that the line names, if it names one
@@ -65,10 +70,18 @@ edge_list_text (edge_list.BadLine line) = line_text line (codes "not an edge")
 edge_list_text (edge_list.NoVertex line) = line_text line (codes "no such vertex")
 edge_list_text (edge_list.TooManyEdges line) = line_text line (codes "too many edges")
 
+-- what is wrong with a job text
+abbrev pub job_text_text : JobsRefusal → List ℕ
+job_text_text (jobs.TooLong bytes) = codes "longer than 1048576 bytes"
+job_text_text (jobs.BadLine line why) = line_text line (why_text why)
+job_text_text (jobs.TooManyJobs line) = line_text line (codes "too many jobs")
+job_text_text (jobs.TooManyChanges line) = line_text line (codes "too many changes")
+
 abbrev pub refusal_text : Refusal → List ℕ
 refusal_text (Missing operand) = codes "no such file"
 refusal_text (Grid error) = grid_error_text error
 refusal_text (EdgeList refusal) = edge_list_text refusal
+refusal_text (JobText refusal) = job_text_text refusal
 refusal_text NotBuiltYet = codes "not built yet"
 
 -- what the line says behind the names

@@ -4,9 +4,10 @@ use Rattle.gm_outside.specs.Causes.{Rose}
 use Rattle.gm_outside.specs.Growth.{GrewBy, GrewByPrefix}
 use Rattle.gm_outside.specs.Frames.{SinkChange}
 use Rattle.gm_output.specs.Lines.{end_of_line}
+use Rattle.gm_words.specs.Commands.{Command, run, build, info}
 use Rattle.gm_commands.specs.declared.failure.Operand.{Operand}
+use Rattle.gm_commands.specs.declared.failure.Operand.TheVariants.{Edges, Grid, Jobs}
 use Rattle.gm_commands.specs.declared.failure.Failure.{Failure}
-use Rattle.gm_commands.specs.Commands.{Command, word_of}
 use Rattle.gm_commands.specs.Failures.{operand_of, text_of}
 
 -- a line begins with the program's name
@@ -20,6 +21,18 @@ usage_line = line_of (codes "usage: run GRID JOBS WORKERS CHUNK, build EDGES GRI
 -- where there was no memory before the words were known
 unfoldable pub out_of_memory_line : List ℕ
 out_of_memory_line = line_of (codes "out of memory")
+
+-- a command's word for a file, empty where it has none
+abbrev pub word_of : Command → Operand → List ℕ
+word_of (run c) Edges = []
+word_of (run c) Grid = c.grid
+word_of (run c) Jobs = c.jobs
+word_of (build c) Edges = c.edges
+word_of (build c) Grid = c.grid
+word_of (build c) Jobs = []
+word_of (info c) Edges = []
+word_of (info c) Grid = c.grid
+word_of (info c) Jobs = []
 
 -- a command's word for the file, if there is one
 abbrev pub named_by : Command → Option Operand → List ℕ

@@ -5,6 +5,7 @@ ghost use Rattle.gm_commands.specs.declared.failure.Failure.TheVariants.{OutOfMe
 
 use gm_edges::EdgeListRefusal;
 use gm_grid::GridError;
+use gm_jobs::JobsRefusal;
 use gm_outside::Trouble;
 use std::alloc::AllocError;
 
@@ -25,7 +26,9 @@ pub enum Refusal {
     Grid(GridError),
     /// The file of edges is no edge list.
     EdgeList(EdgeListRefusal),
-    /// The jobs' file has a form that isn't built yet.
+    /// The jobs' file is no job text.
+    JobText(JobsRefusal),
+    /// The jobs' file has an update, or a job with changes of its own, which aren't built yet.
     NotBuiltYet,
 }
 
@@ -40,7 +43,7 @@ impl Refusal {
         match self {
             Refusal::Missing(_) => 3,
             Refusal::Grid(_) | Refusal::EdgeList(_) => 4,
-            Refusal::NotBuiltYet => 5,
+            Refusal::JobText(_) | Refusal::NotBuiltYet => 5,
         }
     }
 
@@ -52,7 +55,7 @@ impl Refusal {
             Refusal::Missing(operand) => operand,
             Refusal::Grid(_) => Operand::Grid,
             Refusal::EdgeList(_) => Operand::Edges,
-            Refusal::NotBuiltYet => Operand::Jobs,
+            Refusal::JobText(_) | Refusal::NotBuiltYet => Operand::Jobs,
         }
     }
 }

@@ -1,16 +1,17 @@
 //! What the line of a failure says behind the names.
 
 ghost use Rattle.std.specs.Prelude.{◌≡◌, ◌≤◌, length};
-ghost use Rattle.gm_commands.specs.Failures.{grid_error_text, line_text, edge_list_text, refusal_text, text_of};
+ghost use Rattle.gm_commands.specs.Failures.{grid_error_text, line_text, edge_list_text, job_text_text, refusal_text, text_of};
 
 use crate::failure::{Failure, Refusal};
 use gm_edges::EdgeListRefusal;
 use gm_grid::GridError;
+use gm_jobs::JobsRefusal;
 use gm_output::Line;
 
 /// A text alone.
 fn plain_text(text: &[u8]) -> Line
-    requires { length text.now ≤ 20 }
+    requires { length text.now ≤ 30 }
     ensures { result ≡ text.now }
 {
     let mut line = Line::new();
@@ -77,6 +78,18 @@ fn edge_list_text(refusal: EdgeListRefusal) -> Line
     }
 }
 
+/// What is wrong with a job text.
+fn job_text_text(refusal: JobsRefusal) -> Line
+    ensures { result ≡ job_text_text refusal }
+{
+    match refusal {
+        JobsRefusal::TooLong { .. } => plain_text(b"longer than 1048576 bytes"),
+        JobsRefusal::BadLine { line, why } => line_text(u64::from(line), why.text().as_bytes()),
+        JobsRefusal::TooManyJobs { line } => line_text(u64::from(line), b"too many jobs"),
+        JobsRefusal::TooManyChanges { line } => line_text(u64::from(line), b"too many changes"),
+    }
+}
+
 fn refusal_text(refusal: Refusal) -> Line
     ensures { result ≡ refusal_text refusal }
 {
@@ -84,6 +97,7 @@ fn refusal_text(refusal: Refusal) -> Line
         Refusal::Missing(_) => plain_text(b"no such file"),
         Refusal::Grid(error) => grid_error_text(error),
         Refusal::EdgeList(refusal) => edge_list_text(refusal),
+        Refusal::JobText(refusal) => job_text_text(refusal),
         Refusal::NotBuiltYet => plain_text(b"not built yet"),
     }
 }

@@ -3,15 +3,15 @@
 ghost use Rattle.std.specs.Prelude.{◌≡◌, IfOk, IfErr, OnOk};
 ghost use Rattle.gm_outside.specs.Calls.{sink_change};
 ghost use Rattle.gm_output.specs.Pieces.{texts_of};
-ghost use Rattle.gm_commands.specs.Commands.{said};
+ghost use Rattle.gm_words.specs.Commands.{said};
 ghost use Rattle.gm_commands.specs.Failures.{status_of};
-ghost use Rattle.gm_commands.specs.StandardError.{IsSaid, SaysNothing, usage_line, out_of_memory_line, error_line};
+ghost use Rattle.gm_commands.specs.StandardError.{IsSaid, SaysNothing, usage_line, out_of_memory_line, error_line, word_of};
 
-use crate::command::Command;
-use crate::failure::Failure;
+use crate::failure::{Failure, Operand};
 use crate::failure_text::text_of;
 use gm_output::write_texts;
 use gm_outside::{Sink, Trouble};
+use gm_words::Command;
 
 /// What each line begins with.
 const PROGRAM: &[u8] = b"graphm: ";
@@ -47,6 +47,20 @@ pub fn say_out_of_memory<E: Sink>(err: &mut E)
     say_texts(err, &[PROGRAM, b"out of memory\n"]);
 }
 
+/// The command's word for a file, empty where it has none.
+fn word_of<'a>(command: &Command<'a>, operand: Operand) -> &'a str
+    ensures { result.now ≡ word_of (said command.entry.now) operand }
+{
+    match (command, operand) {
+        (Command::Run(run), Operand::Grid) => run.grid,
+        (Command::Run(run), Operand::Jobs) => run.jobs,
+        (Command::Build(build), Operand::Edges) => build.edges,
+        (Command::Build(build), Operand::Grid) => build.grid,
+        (Command::Info(info), Operand::Grid) => info.grid,
+        _ => "",
+    }
+}
+
 /// Says why a command failed, by its words for its files.
 fn say<E: Sink>(err: &mut E, command: &Command<'_>, failure: Failure)
     ensures { IsSaid (error_line (said command.now) failure) (sink_change ⟦<E as Sink>⟧ err.old err.new) }
@@ -54,7 +68,7 @@ fn say<E: Sink>(err: &mut E, command: &Command<'_>, failure: Failure)
     let text = text_of(failure);
     match failure.operand() {
         Some(operand) => {
-            let name = command.word(operand).as_bytes();
+            let name = word_of(command, operand).as_bytes();
             say_texts(err, &[PROGRAM, name, b": ", text.as_slice(), b"\n"])
         }
         None => say_texts(err, &[PROGRAM, text.as_slice(), b"\n"]),

@@ -1,4 +1,5 @@
 pub mod JobLemmas
+pub mod Listing
 pub mod Stops
 pub mod Passing
 pub mod Turning

@@ -17,6 +17,7 @@ use Rattle.gm_grid.specs.GridBytes.{edges_in}
 use Rattle.gm_work.specs.Views.{JobView}
 use Rattle.gm_work.specs.Weights.{run_weight}
 use Rattle.gm_work.specs.Held.{Held, IsSameJob, grid_view}
+use Rattle.gm_work.specs.HeldRules.{same_job-then}
 use Rattle.gm_job_run.specs.declared.job_run.Stop.{Stop}
 use Rattle.gm_job_run.specs.JobRuns.{IsUnderWay, StopsBy, StopFaults, IsOfChunks, ReadsSome, WhereUnderWay, StaysUnderWay, Carries, pass_reads, view_over}
 
@@ -37,14 +38,6 @@ same_job-entry before after e is = record {
   spec = ap (λ (h : Held). h.spec) is;
   catalogue = ap (λ (h : Held). h.catalogue) is;
   overlays = ap (λ (h : Held). h.overlays) is;
-}
-
-pub same_job-then : (a b c : Held) → IsSameJob a b → IsSameJob b c → IsSameJob a c
-same_job-then a b c first second = record {
-  job = second.job ∙ first.job;
-  spec = second.spec ∙ first.spec;
-  catalogue = second.catalogue ∙ first.catalogue;
-  overlays = second.overlays ∙ first.overlays;
 }
 
 same_job-back : (a b : Held) → IsSameJob a b → IsSameJob b a

@@ -23,7 +23,8 @@ use Rattle.gm_work.specs.Views.{IsCutIntoChunks}
 use Rattle.gm_work.specs.Held.{Held, knows, known_of, IsSameJob, IsTurned, grid_view}
 use Rattle.gm_job_run.specs.JobRuns.{IsUnderWay, AfterTurn, TurnsFor, Carries, StaysUnderWay, ReadsSome, pass_reads, view_over}
 use Rattle.gm_job_run.proofs.JobLemmas.{Turns, WeightTurns, AfterTurning, under_way-turns}
-use Rattle.gm_job_run.proofs.Passing.{GoesOn, same_job-then, where-then, goes_on-then, carries-on}
+use Rattle.gm_work.specs.HeldRules.{same_job-then}
+use Rattle.gm_job_run.proofs.Passing.{GoesOn, where-then, goes_on-then, carries-on}
 
 -- the laws of a catalogue and of a grid's chunks
 abbrev pub Cuts : Type 0

@@ -2,14 +2,14 @@
 
 ghost use Rattle.std.specs.Prelude.{◌≡◌, ◌≤◌, ◌<◌, ◌+◌, ℕ, List, [], true, false, length, slice_set, All, IfOk, IfErr, OnOk, OnErr, Some, None, MatchResult, IsTrue, Err};
 ghost use Rattle.std.specs.Arc.{arc_value};
-ghost use Rattle.gm_outside.specs.Causes.{counted_times, Rose};
 ghost use Rattle.gm_base.specs.Graph.{HasEndsBelow};
+ghost use Rattle.gm_outside.specs.Causes.{counted_times, Rose};
 ghost use Rattle.gm_outside.specs.Calls.{depot_change};
+ghost use Rattle.gm_job_run.specs.JobRuns.{pass_reads, StaysUnderWay, TurnsFor, Carries, HasEnded, StopFaults, OfChunk, IsToldStop, ReadsSome, IsOfChunks, JobEnds, FaultsFor, outcome_of_stop, outcome_of_turn, stop_of};
 ghost use Rattle.gm_outside.specs.Frames.{OnlyReads};
 ghost use Rattle.gm_grid.specs.GridBytes.{edges_in};
 ghost use Rattle.gm_label.specs.Catalogues.{base_at};
 ghost use Rattle.gm_source.specs.Fetches.{TellsGrid};
-ghost use Rattle.gm_job_run.specs.JobRuns.{pass_reads, StaysUnderWay, TurnsFor, Carries, HasEnded, StopFaults, OfChunk, IsToldStop, ReadsSome, IsOfChunks, JobEnds, FaultsFor, outcome_of_stop, outcome_of_turn, stop_of};
 ghost use Rattle.gm_kernel.specs.Runs.{most_rounds};
 ghost use Rattle.gm_active.specs.Bits.{is_in};
 ghost use Rattle.gm_work.specs.Entries.{owes_any};

@@ -3,5 +3,7 @@
 #![tactic(auto)]
 
 mod job_run;
+mod jobs_run;
 
 pub use job_run::run_job;
+pub use jobs_run::run_jobs;

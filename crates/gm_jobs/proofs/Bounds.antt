@@ -1,95 +1,133 @@
--- The job that a text states makes at least one round.
-use Rattle.std.specs.Prelude.{◌≡◌, ℕ, ◌+◌, ◌≤◌, Bool, true, false, ◌&&◌, nat_le, if◌then◌else◌, ◌⊎◌, List, [], ◌∷◌, length, Option, Some, None, option_map, codes, refl}
-use Rattle.std.specs.Option.{option_zip}
+-- What the words of a line say is within bounds: jobs make some round, and sources and the ends of changes are vertices.
+use Rattle.std.proofs.Common.{◌≡◌, ℕ, ◌<◌, ◌≤◌, Bool, true, false, List, [], ◌∷◌, Option, Some, None, Result, Ok, Err, refl, arith}
+use Rattle.std.specs.Prelude.{◌&&◌, nat_le, nat_lt, if◌then◌else◌, ok_or, codes, IfOk}
 use Rattle.std.specs.Str.{bytes_eq}
-use Rattle.std.proofs.Common.{inl, inr, sym, ap, ◌∙◌, subst, arith}
 use Rattle.std.proofs.lemmas.Bool.{and_parts, leb-true}
+use Rattle.std.proofs.lemmas.Bool.Decides.{nat_tests}
+use Rattle.std.proofs.lemmas.List.Elements.{All-nil}
 use Rattle.gm_base.specs.declared.job.Spec.{Spec}
 use Rattle.gm_base.specs.declared.job.Spec.TheVariants.{Bfs, Sssp, Wcc, Rank}
-use Rattle.gm_base.specs.Names.{is_name}
-use Rattle.gm_text.specs.Texts.{number_in, statements_of}
-use Rattle.gm_jobs.specs.declared.stated_job.Job.{Job}
-use Rattle.gm_jobs.specs.declared.stated_job.TheConstants.{MAX_TEXT_BYTES, MAX_ROUNDS}
-use Rattle.gm_jobs.specs.JobText.{where_fit, rounds_in, only_rounds, bound_of, source_and_bound, spec_of, named_job_of, job_of_words, job_of_statements, job_of_text, vertex_in}
-use Rattle.gm_jobs.specs.JobBounds.{MakesSomeRound}
+use Rattle.gm_base.specs.Graph.{edge}
+use Rattle.gm_text.specs.Texts.{number_in}
+use Rattle.gm_changes.specs.declared.change.Change.TheVariants.{Add, Cut}
+use Rattle.gm_jobs.specs.declared.jobs_error.Why.{Why}
+use Rattle.gm_jobs.specs.declared.jobs_error.Why.TheVariants.{UnknownWord, BadNumber}
+use Rattle.gm_jobs.specs.declared.limits.TheConstants.{MAX_ROUNDS, MAX_WEIGHT}
+use Rattle.gm_jobs.specs.declared.script.Line.TheVariants as Lines
+use Rattle.gm_jobs.specs.LineWords.{result_map, result_and_then, where_fit, number_between, vertex_numbered, vertex_of, name_of, first_word, read_word, at_end, last_number, bound_in, search_in, spec_in, addition_in, cut_in, change_in}
+use Rattle.gm_jobs.specs.JobBounds.{MakesSomeRound, HasSourceBelow, IsChangeOver, IsLineOver}
+use Rattle.gm_jobs.specs.Scripts.{change_lines_in, job_in}
 
--- one of two
-either : {X : Type 0} (b : Bool) (x y : Option X) (value : X) → (if b then x else y) ≡ Some value → (x ≡ Some value) ⊎ (y ≡ Some value)
-either true x y value is = inl is
-either false x y value is = inr is
+-- a choice of two answers
+pub either : {A E : Type 0} (P : A → Type 0) (b : Bool) (x y : Result A E) → IfOk x P → IfOk y P → IfOk (if b then x else y) P
+either P true x y first second = first
+either P false x y first second = second
 
-only : {X : Type 0} (b : Bool) (x : Option X) (value : X) → (if b then x else None) ≡ Some value → (b ≡ true) × (x ≡ Some value)
-only true x value is = (refl, is)
-only false x value is = absurd cc
+pub mapped : {A B E : Type 0} (P : A → Type 0) (Q : B → Type 0) (f : A → B) (x : Result A E) → IfOk x P → ((value : A) → P value → Q (f value)) → IfOk (result_map f x) Q
+mapped P Q f (Ok value) holds follows = follows value holds
+mapped P Q f (Err error) holds follows = tt
 
-same : {X : Type 0} (x y : X) → Some x ≡ Some y → x ≡ y
-same x y is = cc
+pub chained : {A B E : Type 0} (P : A → Type 0) (Q : B → Type 0) (f : A → Result B E) (x : Result A E) → IfOk x P → ((value : A) → P value → IfOk (f value) Q) → IfOk (result_and_then f x) Q
+chained P Q f (Ok value) holds follows = follows value holds
+chained P Q f (Err error) holds follows = tt
 
-mapped : {X Y : Type 0} (f : X → Y) (x : Option X) (value : Y) → option_map f x ≡ Some value → (v : X) × (x ≡ Some v) × (f v ≡ value)
-mapped f None value is = absurd cc
-mapped f (Some v) value is = (v, refl, same (f v) value is)
+-- a word is read, and then the others
+read_on : {A B : Type 0} (P : A → Type 0) (Q : B → Type 0) (read : List ℕ → Result A Why) (next : A → List (List ℕ) → Result B Why) (words : List (List ℕ))
+    → ((word : List ℕ) → IfOk (read word) P) → ((value : A) (more : List (List ℕ)) → P value → IfOk (next value more) Q) → IfOk (read_word read next words) Q
+read_on P Q read next [] holds follows = tt
+read_on {A} P Q read next (word ∷ more) holds follows =
+    let first : A × List (List ℕ) → Type 0 = λ both. P both.0 in
+    chained first Q (λ (both : A × List (List ℕ)). next both.0 both.1) (first_word read (word ∷ more))
+    (mapped P first (λ value. (value, more)) (read word) (holds word) (λ value is. is)) (λ both is. follows both.0 both.1 is)
 
-zipped : {X Y : Type 0} (x : Option X) (y : Option Y) (value : X × Y) → option_zip x y ≡ Some value → y ≡ Some value.1
-zipped None y value is = absurd cc
-zipped (Some u) None value is = absurd cc
-zipped (Some u) (Some v) value is = ap (λ (both : _ × _). Some both.1) (same (u, v) value is)
+ended : {A : Type 0} (P : A → Type 0) (value : A) (words : List (List ℕ)) → P value → IfOk (at_end value words) P
+ended P value [] holds = holds
+ended P value (word ∷ more) holds = tt
 
-fits : (test : ℕ → Bool) (found : Option ℕ) (value : ℕ) → where_fit test found ≡ Some value → test value ≡ true
-fits test None value is = absurd cc
-fits test (Some number) value is =
-    let parts = only (test number) (Some number) value is in
-    ap test (sym (same number value parts.1)) ∙ parts.0
+-- a vertex is below n
+a_vertex : (n : ℕ) (word : List ℕ) → IfOk (vertex_of n word) (λ v. v < n)
+a_vertex n word = found (number_in word)
+  where
+    below : (number : ℕ) (b : Bool) → nat_lt number n ≡ b → IfOk (vertex_numbered n number) (λ v. v < n)
+    below number true is = let lower : number < n = grind (arith, nat_tests) in rw is lower
+    below number false is = rw is tt
 
-some_rounds : (word : List ℕ) (rounds : ℕ) → rounds_in word ≡ Some rounds → 1 ≤ rounds
-some_rounds word rounds is =
-    leb-true 1 rounds (and_parts (nat_le 1 rounds) (nat_le rounds MAX_ROUNDS) (fits (λ number. nat_le 1 number && nat_le number MAX_ROUNDS) (number_in word) rounds is)).0
+    found : (number : Option ℕ) → IfOk (result_and_then (vertex_numbered n) (ok_or number BadNumber)) (λ v. v < n)
+    found None = tt
+    found (Some number) = below number (nat_lt number n) refl
 
-some_only : (words : List (List ℕ)) (rounds : ℕ) → only_rounds words ≡ Some rounds → 1 ≤ rounds
-some_only [] rounds is = absurd cc
-some_only (word ∷ []) rounds is = some_rounds word rounds is
-some_only (word ∷ next ∷ more) rounds is = absurd cc
+-- a number is not below the least one
+a_number : (least most : ℕ) (word : List ℕ) → IfOk (number_between least most word) (λ number. least ≤ number)
+a_number least most word = found (number_in word)
+  where
+    above : (number : ℕ) (b : Bool) → (nat_le least number && nat_le number most) ≡ b → IfOk (ok_or (if b then Some number else None) BadNumber) (λ number. least ≤ number)
+    above number true is = leb-true least number (and_parts (nat_le least number) (nat_le number most) is).0
+    above number false is = tt
 
-some_bound : (n : ℕ) (words : List (List ℕ)) (bound : ℕ) → bound_of n words ≡ Some bound → 1 ≤ bound
-some_bound n [] bound is = let e = same (n + 1) bound is in omega (arith, e)
-some_bound n (word ∷ more) bound is = some_only more bound (only (bytes_eq word (codes "rounds")) (only_rounds more) bound is).1
+    found : (number : Option ℕ) → IfOk (ok_or (where_fit (λ number. nat_le least number && nat_le number most) number) BadNumber) (λ number. least ≤ number)
+    found None = tt
+    found (Some number) = above number (nat_le least number && nat_le number most) refl
 
-some_source : (n : ℕ) (words : List (List ℕ)) (both : ℕ × ℕ) → source_and_bound n words ≡ Some both → 1 ≤ both.1
-some_source n [] both is = absurd cc
-some_source n (word ∷ more) both is = some_bound n more both.1 (zipped (vertex_in n word) (bound_of n more) both is)
+a_last_number : (least most : ℕ) (words : List (List ℕ)) → IfOk (last_number least most words) (λ number. least ≤ number)
+a_last_number least most words =
+    read_on (λ number. least ≤ number) (λ number. least ≤ number) (number_between least most) at_end words (a_number least most)
+    (λ number more is. ended (λ it. least ≤ it) number more is)
 
-some_spec : (n : ℕ) (words : List (List ℕ)) (spec : Spec) → spec_of n words ≡ Some spec → MakesSomeRound spec
-some_spec n [] spec is = absurd cc
-some_spec n (kind ∷ more) spec is =
-    let levels = option_map (λ (both : ℕ × ℕ). Bfs both.0 both.1) (source_and_bound n more) in
-    let distances = option_map (λ (both : ℕ × ℕ). Sssp both.0 both.1) (source_and_bound n more) in
-    let labels = option_map Wcc (bound_of n more) in
-    let ranks = option_map Rank (only_rounds more) in
-    elim (either (bytes_eq kind (codes "bfs")) levels _ spec is) as (λ _. MakesSomeRound spec) [
-      | inl found ↦ let v = mapped (λ (both : ℕ × ℕ). Bfs both.0 both.1) (source_and_bound n more) spec found in subst MakesSomeRound v.2 (some_source n more v.0 v.1)
-      | inr rest ↦ elim (either (bytes_eq kind (codes "sssp")) distances _ spec rest) as (λ _. MakesSomeRound spec) [
-        | inl found ↦ let v = mapped (λ (both : ℕ × ℕ). Sssp both.0 both.1) (source_and_bound n more) spec found in subst MakesSomeRound v.2 (some_source n more v.0 v.1)
-        | inr rest ↦ elim (either (bytes_eq kind (codes "wcc")) labels _ spec rest) as (λ _. MakesSomeRound spec) [
-          | inl found ↦ let v = mapped Wcc (bound_of n more) spec found in subst MakesSomeRound v.2 (some_bound n more v.0 v.1)
-          | inr rest ↦ let v = mapped Rank (only_rounds more) spec (only (bytes_eq kind (codes "rank")) ranks spec rest).1 in subst MakesSomeRound v.2 (some_only more v.0 v.1)
-        ]
-      ]
-    ]
+a_bound : (n : ℕ) (words : List (List ℕ)) → IfOk (bound_in n words) (λ bound. 1 ≤ bound)
+a_bound n [] = omega arith
+a_bound n (word ∷ more) =
+    either (λ bound. 1 ≤ bound) (bytes_eq word (codes "rounds")) (last_number 1 MAX_ROUNDS more) (Err UnknownWord) (a_last_number 1 MAX_ROUNDS more) tt
 
-some_named : (n : ℕ) (words : List (List ℕ)) (job : Job) → named_job_of n words ≡ Some job → MakesSomeRound job.spec
-some_named n [] job is = absurd cc
-some_named n (name ∷ more) job is =
-    let v = mapped (λ (spec : Spec). record { name = name; spec = spec }) (spec_of n more) job (only (is_name name) _ job is).1 in
-    subst (λ (j : Job). MakesSomeRound j.spec) v.2 (some_spec n more v.0 v.1)
+-- a job that makes some round and has its source below n
+abbrev pub IsSpecOver : ℕ → Spec → Type 0
+IsSpecOver n spec = MakesSomeRound spec × HasSourceBelow n spec
 
-some_words : (n : ℕ) (words : List (List ℕ)) (job : Job) → job_of_words n words ≡ Some job → MakesSomeRound job.spec
-some_words n [] job is = absurd cc
-some_words n (word ∷ more) job is = some_named n more job (only (bytes_eq word (codes "job")) (named_job_of n more) job is).1
+a_search : (n : ℕ) (job : ℕ → ℕ → Spec) → ((source bound : ℕ) → source < n → 1 ≤ bound → IsSpecOver n (job source bound))
+    → (words : List (List ℕ)) → IfOk (search_in n job words) (IsSpecOver n)
+a_search n job follows words =
+    read_on (λ v. v < n) (IsSpecOver n) (vertex_of n) (λ source more. result_map (job source) (bound_in n more)) words (a_vertex n)
+    (λ source more is. mapped (λ bound. 1 ≤ bound) (IsSpecOver n) (job source) (bound_in n more) (a_bound n more) (λ bound some. follows source bound is some))
 
-some_statements : (n : ℕ) (statements : List (List (List ℕ))) (job : Job) → job_of_statements n statements ≡ Some job → MakesSomeRound job.spec
-some_statements n [] job is = absurd cc
-some_statements n (words ∷ []) job is = some_words n words job is
-some_statements n (words ∷ next ∷ more) job is = absurd cc
+pub a_spec : (n : ℕ) (words : List (List ℕ)) → IfOk (spec_in n words) (IsSpecOver n)
+a_spec n [] = tt
+a_spec n (kind ∷ more) =
+    let holds = IsSpecOver n in
+    let levels = a_search n Bfs (λ source bound is some. (some, is)) more in
+    let distances = a_search n Sssp (λ source bound is some. (some, is)) more in
+    let labels = mapped (λ bound. 1 ≤ bound) holds Wcc (bound_in n more) (a_bound n more) (λ bound some. (some, tt)) in
+    let ranks = mapped (λ rounds. 1 ≤ rounds) holds Rank (last_number 1 MAX_ROUNDS more) (a_last_number 1 MAX_ROUNDS more) (λ rounds some. (some, tt)) in
+    either holds (bytes_eq kind (codes "bfs")) _ _ levels
+    (either holds (bytes_eq kind (codes "sssp")) _ _ distances
+    (either holds (bytes_eq kind (codes "wcc")) _ _ labels
+    (either holds (bytes_eq kind (codes "rank")) (result_map Rank (last_number 1 MAX_ROUNDS more)) (Err UnknownWord) ranks tt)))
 
-pub some_round : (n : ℕ) (text : List ℕ) (job : Job) → job_of_text n text ≡ Some job → MakesSomeRound job.spec
-some_round n text job is =
-    some_statements n (statements_of text) job (only (nat_le (length text) MAX_TEXT_BYTES) (job_of_statements n (statements_of text)) job is).1
+pub an_addition : (n : ℕ) (words : List (List ℕ)) → IfOk (addition_in n words) (IsChangeOver n)
+an_addition n words =
+    read_on (λ v. v < n) (IsChangeOver n) (vertex_of n) _ words (a_vertex n)
+    (λ from more is. read_on (λ v. v < n) (IsChangeOver n) (vertex_of n) _ more (a_vertex n)
+    (λ to more is_to. read_on (λ weight. 0 ≤ weight) (IsChangeOver n) (number_between 0 MAX_WEIGHT) _ more (a_number 0 MAX_WEIGHT)
+    (λ weight more any. ended (IsChangeOver n) (Add (edge from to weight)) more (is, is_to))))
+
+pub a_cut : (n : ℕ) (words : List (List ℕ)) → IfOk (cut_in n words) (IsChangeOver n)
+a_cut n words =
+    read_on (λ v. v < n) (IsChangeOver n) (vertex_of n) _ words (a_vertex n)
+    (λ from more is. read_on (λ v. v < n) (IsChangeOver n) (vertex_of n) _ more (a_vertex n)
+    (λ to more is_to. ended (IsChangeOver n) (Cut from to) more (is, is_to)))
+
+pub a_change : (n : ℕ) (words : List (List ℕ)) → IfOk (change_in n words) (IsChangeOver n)
+a_change n [] = tt
+a_change n (word ∷ more) =
+    let holds = IsChangeOver n in
+    either holds (bytes_eq word (codes "add")) _ _ (an_addition n more)
+    (either holds (bytes_eq word (codes "del")) (cut_in n more) (Err UnknownWord) (a_cut n more) tt)
+
+-- a new job has no changes yet
+pub a_job : (n : ℕ) (taken words : List (List ℕ)) → IfOk (job_in n taken words) (λ entry. IsLineOver n entry × (change_lines_in entry ≡ 0))
+a_job n taken words =
+    read_on (λ _. Unit {0}) (λ entry. IsLineOver n entry × (change_lines_in entry ≡ 0)) (name_of taken) _ words (λ word. some_name (name_of taken word))
+    (λ name more any. mapped (IsSpecOver n) (λ entry. IsLineOver n entry × (change_lines_in entry ≡ 0)) (λ spec. Lines.Job name spec []) (spec_in n more) (a_spec n more)
+    (λ spec is. ((is.0, is.1, All-nil (IsChangeOver n)), refl)))
+  where
+    some_name : (found : Result (List ℕ) Why) → IfOk found (λ _. Unit {0})
+    some_name (Ok name) = tt
+    some_name (Err why) = tt

@@ -1,2 +1,9 @@
-pub mod JobText
+pub mod BuiltJobs
+pub mod Examples
 pub mod JobBounds
+pub mod JobsErrors
+pub mod LineErrors
+pub mod LineWords
+pub mod NameSets
+pub mod Readers
+pub mod Scripts

@@ -1,18 +1,24 @@
 //! Laws of job texts.
 
-ghost use Rattle.std.specs.Prelude.{◌≡◌, ℕ, ◌<◌, List, length, Some, None};
-ghost use Rattle.gm_jobs.specs.declared.stated_job.TheConstants.{MAX_TEXT_BYTES};
-ghost use Rattle.gm_jobs.specs.JobText.{job_of_text};
-ghost use Rattle.gm_jobs.specs.JobBounds.{MakesSomeRound};
+ghost use Rattle.std.specs.Prelude.{◌≡◌, ℕ, ◌<◌, List, length, Some, Ok, Err, All};
+ghost use Rattle.gm_jobs.specs.declared.limits.TheConstants.{MAX_TEXT_BYTES};
+ghost use Rattle.gm_jobs.specs.BuiltJobs.{stated_jobs};
+ghost use Rattle.gm_jobs.specs.JobBounds.{MakesSomeRound, IsScriptOver};
+ghost use Rattle.gm_jobs.specs.Scripts.{script_of};
 
-use crate::Job;
+use crate::{Job, JobsRefusal, Line};
 
-/// A law: a text that is longer than a job text may be states no job, so it may be refused unread.
-pub fn long_text_states_no_job()
-    ensures { (n : ℕ) (text : List ℕ) → MAX_TEXT_BYTES < length text → job_of_text n text ≡ None }
+/// A law: a text that is longer than a job text may be is refused by its length alone, so it may be refused unread.
+pub fn long_text_is_refused()
+    ensures { (n : ℕ) (text : List ℕ) → MAX_TEXT_BYTES < length text → script_of n text ≡ Err (JobsRefusal.TooLong (length text)) }
 {}
 
-/// A law: a job that a text states makes at least one round.
-pub fn jobs_make_some_round()
-    ensures { (n : ℕ) (text : List ℕ) (job : Job) → job_of_text n text ≡ Some job → MakesSomeRound job.spec }
+/// A law: each job of a script makes at least one round, sources and the ends of changes are below n, and neither jobs nor changes are too many.
+pub fn scripts_are_within_bounds()
+    ensures { (n : ℕ) (text : List ℕ) (entries : List Line) → script_of n text ≡ Ok entries → IsScriptOver n entries }
+{}
+
+/// A law: each job that a text states makes at least one round.
+pub fn stated_jobs_make_some_round()
+    ensures { (n : ℕ) (text : List ℕ) (jobs : List Job) → stated_jobs n text ≡ Some jobs → All (λ (job : Job). MakesSomeRound job.spec) jobs }
 {}

@@ -11,7 +11,7 @@ use Rattle.gm_label.specs.Catalogues.{Catalogue}
 use Rattle.gm_source.specs.Openings.{IsTold, IsCatalogueOf}
 use Rattle.gm_commands.specs.declared.failure.Failure.TheVariants.{OutputFailed}
 use Rattle.gm_commands.specs.Failures.{failed_by}
-use Rattle.gm_commands.specs.Commands.{InfoCommand}
+use Rattle.gm_words.specs.Commands.{InfoCommand}
 use Rattle.gm_commands.specs.Readings.{AreTaken, DepotServed}
 use Rattle.gm_tools.specs.Infos.{info_reading, IsOfGrid, InfoHandles, text_of_catalogue}
 

@@ -12,7 +12,7 @@ use Rattle.gm_build.specs.Blocks.{blocks_from, built_file}
 use Rattle.gm_commands.specs.declared.failure.Operand.TheVariants.{Grid}
 use Rattle.gm_commands.specs.declared.failure.Failure.{Failure}
 use Rattle.gm_commands.specs.declared.failure.Failure.TheVariants.{Refused, ReadFailed, WriteFailed, OutputFailed, OutOfMemory}
-use Rattle.gm_commands.specs.Commands.{BuildCommand}
+use Rattle.gm_words.specs.Commands.{BuildCommand}
 use Rattle.gm_commands.specs.Readings.{Reading}
 use Rattle.gm_commands.specs.Endings.{Handles, WritesNothing}
 use Rattle.gm_tools.specs.EdgeReadings.{edges_reading, ListsEdges}

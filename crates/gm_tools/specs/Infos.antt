@@ -8,7 +8,7 @@ use Rattle.gm_grid.specs.GridBytes.{edges_in}
 use Rattle.gm_label.specs.Catalogues.{Catalogue}
 use Rattle.gm_source.specs.Openings.{IsTold, IsCatalogueOf}
 use Rattle.gm_commands.specs.declared.failure.Failure.{Failure}
-use Rattle.gm_commands.specs.Commands.{InfoCommand}
+use Rattle.gm_words.specs.Commands.{InfoCommand}
 use Rattle.gm_commands.specs.Readings.{Reading}
 use Rattle.gm_commands.specs.Endings.{Handles, LeavesPart}
 use Rattle.gm_tools.specs.Grids.{grid_reading}

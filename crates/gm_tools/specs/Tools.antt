@@ -2,7 +2,7 @@
 use Rattle.std.specs.Prelude.{◌≡◌, ℕ, ◌⊎◌, Option, Some, None}
 use Rattle.gm_outside.specs.Frames.{DepotChange, SinkChange}
 use Rattle.gm_commands.specs.declared.failure.Failure.{Failure}
-use Rattle.gm_commands.specs.Commands.{Command, run, build, info}
+use Rattle.gm_words.specs.Commands.{Command, run, build, info}
 use Rattle.gm_commands.specs.Readings.{Reading, no_reading}
 use Rattle.gm_commands.specs.Endings.{CommandCall, HasSucceeded, HasFailed}
 use Rattle.gm_tools.specs.EdgeReadings.{ReadsInPieces}

@@ -2,16 +2,17 @@
 
 ghost use Rattle.std.specs.Prelude.{◌≡◌, ◌≤◌};
 ghost use Rattle.gm_outside.specs.Calls.{depot_change, sink_change};
-ghost use Rattle.gm_commands.specs.Commands.{build_said};
+ghost use Rattle.gm_words.specs.Commands.{build_said};
 ghost use Rattle.gm_tools.specs.EdgeReadings.{ReadsInPieces};
 ghost use Rattle.gm_tools.specs.Builds.{output_text, BuildHandles};
 
 use crate::edge_reading::list_edges;
 use gm_base::Edges;
 use gm_build::build;
-use gm_commands::{BuildCommand, Failure, Operand};
+use gm_commands::{Failure, Operand};
 use gm_output::Line;
 use gm_outside::{Depot, Sink, Trouble};
+use gm_words::BuildCommand;
 use std::alloc::Global;
 
 /// The failure of a call on the grid's file.

@@ -3,16 +3,17 @@
 ghost use Rattle.std.specs.Prelude.{◌≡◌, ◌≤◌, sum_by};
 ghost use Rattle.gm_base.specs.declared.limits.TheConstants.{MAX_CHUNK_SIZE};
 ghost use Rattle.gm_outside.specs.Calls.{depot_change, sink_change};
-ghost use Rattle.gm_commands.specs.Commands.{info_said};
+ghost use Rattle.gm_words.specs.Commands.{info_said};
 ghost use Rattle.gm_tools.specs.Grids.{OpensFew};
 ghost use Rattle.gm_tools.specs.Infos.{InfoHandles, info_text, text_of_catalogue};
 
 use crate::grid_opening::load_grid;
-use gm_commands::{Failure, InfoCommand};
+use gm_commands::Failure;
 use gm_label::Catalogue;
 use gm_output::Line;
 use gm_outside::{Depot, Sink};
 use gm_source::laws::catalogued_files_are_grids;
+use gm_words::InfoCommand;
 use std::alloc::Global;
 
 /// The output for these numbers.

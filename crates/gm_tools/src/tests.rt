@@ -339,14 +339,19 @@ fn each_read_of_an_info_fails_in_turn(rt: HostRuntime) -> Result<(), Fail> {
     let bad = grid_with_bad_edge(&rt)?;
     let cut = b"graphm: a.grid: size 95, expected 96\n".as_slice();
     let stray = b"graphm: a.grid: bad edge 1\n".as_slice();
-    let table: [(&[u8], u64, u8, &[u8]); 3] = [
-        (GRID, 6, 0, b""),
-        (&GRID[..95], 2, 4, cut),
-        (&bad, 4, 4, stray),
+    let (ones, twos) = (INFOS[0].1, INFOS[1].1);
+    let table: [(&str, &[u8], u64, u8, &[u8], &[u8]); 6] = [
+        ("1", GRID, 6, 0, ones, b""),
+        ("2", GRID, 5, 0, twos, b""),
+        ("1", &GRID[..95], 2, 4, b"", cut),
+        ("2", &GRID[..95], 2, 4, b"", cut),
+        ("1", &bad, 4, 4, b"", stray),
+        ("2", &bad, 4, 4, b"", stray),
     ];
-    for (grid, made, status, line) in table {
+    for (chunk_size, grid, made, status, output, line) in table {
         for number in 1..made + 2 {
-            let end = info(&rt, "1", grid, &[(Call::Read, number), (Call::Size, 2)])?;
+            let fails = [(Call::Read, number), (Call::Size, 2)];
+            let end = info(&rt, chunk_size, grid, &fails)?;
             let failed = number <= made;
             assert_eq!(rt;
                 end.status,
@@ -364,12 +369,11 @@ fn each_read_of_an_info_fails_in_turn(rt: HostRuntime) -> Result<(), Fail> {
                 if failed { 1 } else { 0 },
                 "{made} {number}"
             );
-            let output: &[u8] = if failed || status != 0 {
-                b""
-            } else {
-                INFOS[0].1
-            };
-            assert_eq!(rt; end.out.written(), output, "{made} {number}");
+            assert_eq!(rt;
+                end.out.written(),
+                if failed { b"" } else { output },
+                "{made} {number}"
+            );
         }
     }
     Ok(())

@@ -1,16 +1,17 @@
 //! The call of the tools.
 
-ghost use Rattle.std.specs.Prelude.{◌≡◌, ◌≤◌, ◌↔◌, None, IfSome};
+ghost use Rattle.std.specs.Prelude.{◌≡◌, ◌≤◌, None, IfSome};
 ghost use Rattle.gm_outside.specs.Calls.{depot_change, sink_change};
-ghost use Rattle.gm_commands.specs.Commands.{command_of};
-ghost use Rattle.gm_commands.specs.Endings.{call_of, IsComplete, IsUsageCall};
+ghost use Rattle.gm_words.specs.Commands.{command_of};
+ghost use Rattle.gm_commands.specs.Endings.{call_of, IsComplete, RefusesWords};
 ghost use Rattle.gm_tools.specs.Tools.{tool_in, tool_reading, ToolReads, ToolSucceeds, ToolFails, ToolKeepsOthers, IsToolStatus};
 
 use crate::build_tool::run_build;
 use crate::info_tool::run_info;
-use gm_base::Words;
-use gm_commands::{Command, conclude, read_command, say_usage};
+use gm_base::{Memory, Words};
+use gm_commands::{conclude, say_out_of_memory, say_usage};
 use gm_outside::{Depot, Sink};
+use gm_words::{Command, read_words};
 use std::alloc::Global;
 
 /// Does what the words say over the depot's files: `build EDGES GRID N PARTS` makes GRID the grid of the edges that EDGES lists, for N
@@ -26,8 +27,8 @@ pub fn tool<D: Depot, K: Sink, E: Sink>(
     out: &mut K,
     err: &mut E,
 ) -> u8
-    ensures usage { (result ≡ 2) ↔ (tool_in (command_of words.now) ≡ None) }
-    ensures usage_call { result ≡ 2 → IsUsageCall (call_of words.now (depot_change ⟦<D as Depot>⟧ depot.old depot.new)
+    ensures usage { result ≡ 2 → tool_in (command_of words.now) ≡ None }
+    ensures no_command { tool_in (command_of words.now) ≡ None → RefusesWords (call_of words.now (depot_change ⟦<D as Depot>⟧ depot.old depot.new)
         (sink_change ⟦<K as Sink>⟧ out.old out.new) (sink_change ⟦<E as Sink>⟧ err.old err.new) result) }
     ensures tool_output { result ≡ 0 → IfSome (tool_in (command_of words.now)) (λ command. ToolSucceeds command
         (call_of words.now (depot_change ⟦<D as Depot>⟧ depot.old depot.new)
@@ -44,18 +45,22 @@ pub fn tool<D: Depot, K: Sink, E: Sink>(
     ensures out_faults { K.faults out.old ≤ K.faults out.new }
     ensures calm { D.calm depot.new ≡ D.calm depot.old }
 {
-    match read_command(words) {
-        Some(Command::Build(build)) => {
+    match read_words(alloc, words) {
+        Ok(Some(Command::Build(build))) => {
             let outcome = run_build(alloc, &build, depot, out);
             conclude(err, &Command::Build(build), outcome)
         }
-        Some(Command::Info(info)) => {
+        Ok(Some(Command::Info(info))) => {
             let outcome = run_info(alloc, &info, depot, out);
             conclude(err, &Command::Info(info), outcome)
         }
-        Some(Command::Run(_)) | None => {
+        Ok(Some(Command::Run(_)) | None) => {
             say_usage(err);
             2
+        }
+        Err(Memory) => {
+            say_out_of_memory(err);
+            8
         }
     }
 }

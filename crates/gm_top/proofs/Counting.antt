@@ -12,16 +12,16 @@ use Rattle.gm_grid.specs.GridBytes.{edges_in}
 use Rattle.gm_label.specs.Catalogues.{Catalogue}
 use Rattle.gm_source.specs.Openings.{opening_reads}
 use Rattle.gm_source.specs.Fetches.{TellsGrid}
-use Rattle.gm_work.specs.Held.{grid_view}
-use Rattle.gm_work.specs.Weights.{run_weight}
-use Rattle.gm_job_run.specs.JobRuns.{pass_reads, ReadsSome}
-use Rattle.gm_jobs.specs.declared.stated_job.Job.{Job}
+use Rattle.gm_job_run.specs.JobRuns.{ReadsSome}
+use Rattle.gm_job_run.specs.JobLines.{runs_weight}
+use Rattle.gm_jobs.specs.declared.job.Job.{Job}
 use Rattle.gm_commands.specs.declared.failure.Failure.{Failure}
 use Rattle.gm_commands.specs.declared.failure.Failure.TheVariants.{OutOfMemory}
 use Rattle.gm_commands.specs.Failures.{status_of}
-use Rattle.gm_commands.specs.Commands.{RunCommand}
+use Rattle.gm_words.specs.Commands.{RunCommand}
 use Rattle.gm_top.specs.RunReadings.{HoldsRun}
 use Rattle.gm_top.specs.RunEndings.{OpenedFew, RanFew, ReadsRun}
+use Rattle.gm_top.proofs.Running.{EdgesBack}
 
 opened : (told : Option Files) (command : RunCommand) (depot : DepotChange) → IfSome told (OpenedFew command depot)
     → IfSome told (λ held. OpenedFew command depot held ⊎ RanFew command depot held)
@@ -39,38 +39,34 @@ reads_run-files command depot status frame few = record {
   refused_told = λ low high. few;
 }
 
--- the law of a grid's edges
-abbrev pub EdgesBack : Type 0
-EdgesBack = (bytes : List ℕ) (n parts : ℕ) (blocks : List (List Edge)) → IsGrid bytes n parts blocks → edges_in bytes ≡ edges_of_grid blocks
-
-ran : (told : Option Files) (command : RunCommand) (depot : DepotChange) (mid : ℕ) (mid_told : Option Files) (cat : Catalogue) (job : Job) → EdgesBack → mid_told ≡ told
+ran : (told : Option Files) (command : RunCommand) (depot : DepotChange) (mid : ℕ) (mid_told : Option Files) (cat : Catalogue) (jobs : List Job) → EdgesBack → mid_told ≡ told
     → mid ≡ counted (counted_times (opening_reads cat.places) depot.reads)
-    → IfSome told (λ held. HoldsRun command held cat job)
-    → ((bytes : List ℕ) → TellsGrid mid_told command.grid cat bytes → depot.reads_now ≤ mid + run_weight (grid_view job.spec cat (edges_in bytes)) (pass_reads cat))
+    → IfSome told (λ held. HoldsRun command held cat jobs)
+    → ((bytes : List ℕ) → TellsGrid mid_told command.grid cat bytes → depot.reads_now ≤ mid + runs_weight cat (edges_in bytes) jobs)
     → IfSome told (λ held. OpenedFew command depot held ⊎ RanFew command depot held)
-ran None command depot mid mid_told cat job back same opening holds few = tt
-ran (Some held) command depot mid mid_told cat job back same opening holds few =
+ran None command depot mid mid_told cat jobs back same opening holds few = tt
+ran (Some held) command depot mid mid_told cat jobs back same opening holds few =
     let is = holds.grid in
     let told : TellsGrid mid_told command.grid cat holds.bytes = record { files = held; is_told = same; there = holds.grid_file; size = command.chunk; catalogue = is } in
     let here = few holds.bytes told in
-    let edges = ap (λ (es : List Edge). run_weight (grid_view job.spec cat es) (pass_reads cat)) (back holds.bytes is.n is.parts is.blocks is.grid) in
+    let edges = ap (λ (es : List Edge). runs_weight cat es jobs) (back holds.bytes is.n is.parts is.blocks is.grid) in
     let before = counted_times-few (suc (opening_reads cat.places)) depot.reads in
-    inr (record { cat = cat; job = job; holds = holds; few = omega (arith, here, edges, before, opening) })
+    inr (record { cat = cat; jobs = jobs; holds = holds; few = omega (arith, here, edges, before, opening) })
 
 no_refusal : (status : ℕ) → 2 ≤ status → status ≤ 6 → (status ≤ 1) ⊎ (7 ≤ status) → ⊥
 no_refusal status low high (inl less) = omega (arith, low, less)
 no_refusal status low high (inr more) = omega (arith, high, more)
 
 -- the job was run, and the report was written or not
-pub reads_run-ran : (command : RunCommand) (depot : DepotChange) (status mid : ℕ) (mid_told : Option Files) (cat : Catalogue) (job : Job) → EdgesBack → mid_told ≡ depot.files
+pub reads_run-ran : (command : RunCommand) (depot : DepotChange) (status mid : ℕ) (mid_told : Option Files) (cat : Catalogue) (jobs : List Job) → EdgesBack → mid_told ≡ depot.files
     → mid ≡ counted (counted_times (opening_reads cat.places) depot.reads)
-    → IfSome depot.files (λ held. HoldsRun command held cat job)
-    → ((bytes : List ℕ) → TellsGrid mid_told command.grid cat bytes → depot.reads_now ≤ mid + run_weight (grid_view job.spec cat (edges_in bytes)) (pass_reads cat))
+    → IfSome depot.files (λ held. HoldsRun command held cat jobs)
+    → ((bytes : List ℕ) → TellsGrid mid_told command.grid cat bytes → depot.reads_now ≤ mid + runs_weight cat (edges_in bytes) jobs)
     → ReadsSome depot → (status ≤ 1) ⊎ (7 ≤ status) → ReadsRun command depot status
-reads_run-ran command depot status mid mid_told cat job back same opening holds few frame other = record {
+reads_run-ran command depot status mid mid_told cat jobs back same opening holds few frame other = record {
   most = frame.0;
   frame = frame.1;
-  whole = ran depot.files command depot mid mid_told cat job back same opening holds few;
+  whole = ran depot.files command depot mid mid_told cat jobs back same opening holds few;
   refused = λ low high. absurd (no_refusal status low high other);
   refused_told = λ low high. absurd (no_refusal status low high other);
 }

@@ -1,3 +1,4 @@
 pub mod Loading
 pub mod Running
 pub mod Counting
+pub mod Unread

@@ -1,6 +1,7 @@
 -- What follows from the files that a run loaded.
-use Rattle.std.specs.Prelude.{◌≡◌, ℕ, ◌+◌, ◌≤◌, List, Option, Some, None, IfSome, IsSomeAnd, Ok, Err, refl}
+use Rattle.std.specs.Prelude.{◌≡◌, ℕ, ◌+◌, ◌≤◌, List, Option, Some, None, IfSome, IsSomeAnd, Ok, Err, All, refl}
 use Rattle.std.specs.FinMap.{get}
+use Rattle.std.proofs.lemmas.List.Elements.{All-weaker}
 use Rattle.std.proofs.Common.{sym, ap, ◌∙◌, subst}
 use Rattle.gm_outside.specs.declared.traits.Depot as Depot
 use Rattle.gm_outside.specs.Calls.{depot_change}
@@ -14,8 +15,8 @@ use Rattle.gm_base.specs.declared.job.Spec.{Spec}
 use Rattle.gm_base.specs.declared.job.Spec.TheVariants.{Bfs, Sssp, Wcc, Rank}
 use Rattle.gm_kernel.specs.Runs.{most_rounds}
 use Rattle.gm_jobs.specs.JobBounds.{MakesSomeRound}
-use Rattle.gm_jobs.specs.declared.stated_job.Job.{Job}
-use Rattle.gm_commands.specs.Commands.{RunCommand}
+use Rattle.gm_jobs.specs.declared.job.Job.{Job}
+use Rattle.gm_words.specs.Commands.{RunCommand}
 use Rattle.gm_base.specs.declared.limits.TheConstants.{MAX_CHUNKS}
 use Rattle.gm_outside.specs.Frames.{DepotChange}
 use Rattle.gm_commands.specs.declared.failure.Failure.{Failure}
@@ -23,25 +24,25 @@ use Rattle.gm_commands.specs.declared.failure.Operand.TheVariants.{Edges, Grid, 
 use Rattle.gm_commands.specs.Readings.{Reading, ReadsFiles}
 use Rattle.gm_commands.specs.ReadingsRules.{AreApart, reads_files-then, reads_files-same}
 use Rattle.gm_tools.specs.Grids.{grid_reading}
-use Rattle.gm_top.specs.RunReadings.{HoldsRun, TellsJob, files_reading, jobs_reading, jobs_reading_by_grid, vertices_of_file}
+use Rattle.gm_top.specs.RunReadings.{HoldsRun, TellsJobs, files_reading, jobs_reading, jobs_reading_by_grid, vertices_of_file}
 
 there : {P : List ℕ → Type 0} (found : Option (List ℕ)) → IsSomeAnd found P → (bytes : List ℕ) × (found ≡ Some bytes) × P bytes
 there None told = absurd told
 there (Some bytes) told = (bytes, refl, told)
 
 -- both files were loaded from the same ones
-pub holds_run : (told told' : Option Files) (command : RunCommand) (cat : Catalogue) (n : ℕ) (job : Job) → told' ≡ told → n ≡ cat.dimensions.n
-    → IsTold told command.grid (λ bytes. IsCatalogueOf bytes command.chunk cat) → IfSome told' (λ held. TellsJob held command.jobs n job)
-    → IfSome told (λ held. HoldsRun command held cat job)
-holds_run None told' command cat n job same count grid tells = tt
-holds_run (Some held) told' command cat n job same count grid tells =
+pub holds_run : (told told' : Option Files) (command : RunCommand) (cat : Catalogue) (n : ℕ) (jobs : List Job) → told' ≡ told → n ≡ cat.dimensions.n
+    → IsTold told command.grid (λ bytes. IsCatalogueOf bytes command.chunk cat) → IfSome told' (λ held. TellsJobs held command.jobs n jobs)
+    → IfSome told (λ held. HoldsRun command held cat jobs)
+holds_run None told' command cat n jobs same count grid tells = tt
+holds_run (Some held) told' command cat n jobs same count grid tells =
     let here = there (get held command.grid) grid in
-    let jobs = subst (λ (told : Option Files). IfSome told (λ files. TellsJob files command.jobs n job)) same tells in
+    let told_jobs = subst (λ (told : Option Files). IfSome told (λ files. TellsJobs files command.jobs n jobs)) same tells in
     record {
       bytes = here.0;
       grid_file = here.1;
       grid = here.2;
-      jobs = subst (λ (m : ℕ). TellsJob held command.jobs m job) count jobs;
+      told_jobs = subst (λ (m : ℕ). TellsJobs held command.jobs m jobs) count told_jobs;
     }
 
 -- the law of a grid's shape
@@ -99,8 +100,12 @@ not_loaded {X = X} {Y = Y} g old mid new command cat n failure shapes count grid
     reads_files-then g old mid new (2 + MAX_CHUNKS) 1 (grid_reading command.grid command.chunk) (jobs_reading_by_grid command) cat (Err failure) (apart command) first
     (reads-err {X = X} {Y = Y} 1 (jobs_reading_by_grid command) (depot_change g mid new) failure by_file)
 
-pub some_rounds : (spec : Spec) → MakesSomeRound spec → 1 ≤ most_rounds spec
-some_rounds (Bfs source bound) some = some
-some_rounds (Sssp source bound) some = some
-some_rounds (Wcc bound) some = some
-some_rounds (Rank rounds) some = some
+-- each job makes some round
+some_round : (spec : Spec) → MakesSomeRound spec → 1 ≤ most_rounds spec
+some_round (Bfs source bound) some = some
+some_round (Sssp source bound) some = some
+some_round (Wcc bound) some = some
+some_round (Rank rounds) some = some
+
+pub some_rounds : (jobs : List Job) → All (λ (job : Job). MakesSomeRound job.spec) jobs → All (λ (job : Job). 1 ≤ most_rounds job.spec) jobs
+some_rounds jobs some = All-weaker (λ (job : Job). MakesSomeRound job.spec) (λ (job : Job). 1 ≤ most_rounds job.spec) (λ job. some_round job.spec) jobs some

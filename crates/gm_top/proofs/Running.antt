@@ -1,6 +1,6 @@
--- What follows from a job that was run over the grid that was loaded.
-use Rattle.std.specs.Prelude.{◌≡◌, ℕ, suc, ◌+◌, ◌<◌, ◌≤◌, Bool, ◌⊎◌, List, [], ◌∷◌, Option, Some, None, IfSome, Result, Ok, Err, IfOk, MatchResult, refl}
-use Rattle.std.proofs.Common.{inl, inr, sym, ap, ◌∙◌, subst, arith}
+-- What follows from jobs that were run over the grid that was loaded.
+use Rattle.std.specs.Prelude.{◌≡◌, ℕ, suc, ◌+◌, ◌<◌, ◌≤◌, Bool, ◌⊎◌, List, [], ◌∷◌, Option, Some, None, IfSome, Result, Ok, Err, IfOk, refl}
+use Rattle.std.proofs.Common.{Vec, Global, inl, inr, sym, ap, ◌∙◌, subst, arith}
 use Rattle.gm_base.specs.declared.edge.Edge.{Edge}
 use Rattle.gm_base.specs.declared.limits.TheConstants.{MAX_CHUNKS}
 use Rattle.gm_base.specs.declared.job.JobLine.{JobLine}
@@ -14,21 +14,18 @@ use Rattle.gm_outside.specs.Calls.{depot_change}
 use Rattle.gm_outside.specs.Causes.{counted, counted_times}
 use Rattle.gm_outside.specs.CausesRules.{counted_times-add}
 use Rattle.gm_outside.specs.Files.{Files}
-use Rattle.gm_outside.specs.Frames.{DepotChange}
 use Rattle.gm_grid.specs.Format.{IsGrid, edges_of_grid}
 use Rattle.gm_grid.specs.GridBytes.{edges_in}
 use Rattle.gm_label.specs.Catalogues.{Catalogue}
 use Rattle.gm_source.specs.Openings.{IsCatalogueOf, opening_reads}
 use Rattle.gm_source.specs.Fetches.{TellsGrid}
-use Rattle.gm_work.specs.Held.{grid_view}
-use Rattle.gm_work.specs.Weights.{run_weight}
-use Rattle.gm_job_run.specs.JobRuns.{JobEnds, IsNeeded, FaultsFor, pass_reads}
-use Rattle.gm_jobs.specs.declared.stated_job.Job.{Job}
-use Rattle.gm_commands.specs.Commands.{RunCommand}
+use Rattle.gm_job_run.specs.JobLines.{line_of_job, AreLinesOfJobs, EndsOver, FaultsOf, IsTold, RunOver, failed_reads, runs_weight}
+use Rattle.gm_jobs.specs.declared.job.Job.{Job}
+use Rattle.gm_words.specs.Commands.{RunCommand}
 use Rattle.gm_commands.specs.declared.failure.Failure.{Failure}
 use Rattle.gm_commands.specs.Readings.{ReadsFiles}
-use Rattle.gm_top.specs.RunReadings.{HoldsRun, StatesJob, files_reading}
-use Rattle.gm_top.specs.RunReports.{AreLinesOf, AreReported, EndsAlone, FailsAtChunk, FailsEarly, IsTold, failed_reads, line_of_job, reads_of_run}
+use Rattle.gm_top.specs.RunReadings.{HoldsRun, StatesJobs, files_reading}
+use Rattle.gm_top.specs.RunReports.{AreLinesOf, AreReported, EndsInTime, FailsEarly, reads_of_run}
 
 -- the laws of a grid's edges, of its catalogue and of jobs that settle
 abbrev pub EdgesBack : Type 0
@@ -47,108 +44,75 @@ early spec n edges outcome settles graph some is bound at =
     let below = end.1 in
     omega (arith, most, below)
 
--- how the run ends, by how its job did
-run_ends : (spec : Spec) (cat : Catalogue) (edges edges' : List Edge) (depot : DepotChange) (mid : ℕ) (calm : Bool) (job_depot : DepotChange) (outcome : Outcome)
-    → edges' ≡ edges → mid ≡ counted (counted_times (opening_reads cat.places) depot.reads) → job_depot.reads ≡ mid → job_depot.reads_now ≡ depot.reads_now
-    → job_depot.calm ≡ depot.calm → FailsEarly cat.dimensions.n (lone_run spec cat.dimensions.n edges')
-    → JobEnds (grid_view spec cat edges') (pass_reads cat) job_depot outcome
-    → EndsAlone spec cat edges depot outcome ⊎ FailsAtChunk spec cat edges depot outcome
-run_ends spec cat edges edges' depot mid calm job_depot outcome same opened from to is_calm soon (inl alone) =
-    let weight = run_weight (grid_view spec cat edges') (pass_reads cat) in
-    let order : suc (opening_reads cat.places) + weight ≡ opening_reads cat.places + 1 + weight = omega arith in
-    inl (record {
-      alone = alone.0 ∙ ap (lone_run spec cat.dimensions.n) same;
-      early = subst (FailsEarly cat.dimensions.n) (sym alone.0) soon;
-      reads =
-          sym to ∙ alone.1 ∙ ap (counted_times weight) (from ∙ opened)
-          ∙ sym (counted_times-add (suc (opening_reads cat.places)) weight depot.reads)
-          ∙ ap (λ (m : ℕ). counted_times m depot.reads) order
-          ∙ ap (λ (es : List Edge). counted_times (reads_of_run spec cat es) depot.reads) same;
-    })
-run_ends spec cat edges edges' depot mid calm job_depot outcome same opened from to is_calm soon (inr fails) =
-    inr (record {
-      chunk = fails.chunk;
-      is = fails.is;
-      needed = subst (λ (es : List Edge). IsNeeded (grid_view spec cat es) fails.chunk) same fails.needed;
-      not_calm = λ calm. fails.not_calm (is_calm ∙ calm);
-    })
+-- a job that ended over the grid's edges did so in time
+in_time : (cat : Catalogue) (edges : List Edge) (calm : Bool) → Settles → IsGraph cat.dimensions.n edges → 1 ≤ cat.dimensions.n
+    → (spec : Spec) (outcome : Outcome) → EndsOver cat edges calm spec outcome → EndsInTime cat edges calm spec outcome
+in_time cat edges calm settles graph some spec outcome (inl alone) = (inl alone, early spec cat.dimensions.n edges outcome settles graph some alone)
+in_time cat edges calm settles graph some spec outcome (inr fails) = (inr fails, λ bound at. absurd (let other = sym fails.is ∙ at in cc))
+
+-- the same lines, of whose jobs something else holds
+each_ends : (First Second : Spec → Outcome → Type 0) → ((spec : Spec) (outcome : Outcome) → First spec outcome → Second spec outcome)
+    → (jobs : List Job) (lines : List JobLine) → AreLinesOfJobs First jobs lines → AreLinesOfJobs Second jobs lines
+each_ends First Second follows [] [] are = tt
+each_ends First Second follows [] (line ∷ lines) are = absurd are
+each_ends First Second follows (job ∷ jobs) [] are = absurd are
+each_ends First Second follows (job ∷ jobs) (line ∷ lines) are =
+    (are.0, follows job.spec line.outcome are.1, each_ends First Second follows jobs lines are.2)
 
 -- the depot tells the grid that was loaded
-tells : (told : Option Files) (held : Files) (command : RunCommand) (cat : Catalogue) (job : Job) (holds : HoldsRun command held cat job) → told ≡ Some held
+tells : (told : Option Files) (held : Files) (command : RunCommand) (cat : Catalogue) (jobs : List Job) (holds : HoldsRun command held cat jobs) → told ≡ Some held
     → TellsGrid told command.grid cat holds.bytes
-tells told held command cat job holds is =
+tells told held command cat jobs holds is =
     record { files = held; is_told = is; there = holds.grid_file; size = command.chunk; catalogue = holds.grid }
 
-lines_in : {D : Type 0} (g : Depot.Ghosts D) (old mid new : D) (told : Option Files) (command : RunCommand) (cat : Catalogue) (job : Job) (outcome : Outcome)
+-- the reads of the opening, of the job text and of the jobs' runs
+all_reads : (cat : Catalogue) (edges : List Edge) (jobs : List Job) (first mid last : ℕ) → mid ≡ counted (counted_times (opening_reads cat.places) first)
+    → last ≡ counted_times (runs_weight cat edges jobs) mid → last ≡ counted_times (reads_of_run cat edges jobs) first
+all_reads cat edges jobs first mid last opened ran =
+    let weight = runs_weight cat edges jobs in
+    let order : suc (opening_reads cat.places) + weight ≡ opening_reads cat.places + 1 + weight = omega arith in
+    ran ∙ ap (counted_times weight) opened ∙ sym (counted_times-add (suc (opening_reads cat.places)) weight first) ∙ ap (λ (n : ℕ). counted_times n first) order
+
+lines_in : {D : Type 0} (g : Depot.Ghosts D) (old mid new : D) (told : Option Files) (command : RunCommand) (cat : Catalogue) (jobs : List Job) (lines : List JobLine)
     → g.files mid ≡ told → g.calm mid ≡ g.calm old → g.reads mid ≡ counted (counted_times (opening_reads cat.places) (g.reads old))
     → EdgesBack → Settles → Graphs
-    → IfSome told (λ held. HoldsRun command held cat job)
-    → ((bytes : List ℕ) → TellsGrid (g.files mid) command.grid cat bytes → JobEnds (grid_view job.spec cat (edges_in bytes)) (pass_reads cat) (depot_change g mid new) outcome)
-    → IfSome told (λ held. AreLinesOf command (depot_change g old new) held (line_of_job job outcome ∷ []))
-lines_in g old mid new None command cat job outcome files calm opened back settles graphs holds ends = tt
-lines_in g old mid new (Some held) command cat job outcome files calm opened back settles graphs holds ends =
+    → IfSome told (λ held. HoldsRun command held cat jobs)
+    → ((bytes : List ℕ) → TellsGrid (g.files mid) command.grid cat bytes → RunOver cat (edges_in bytes) (depot_change g mid new) jobs lines)
+    → IfSome told (λ held. AreLinesOf command (depot_change g old new) held lines)
+lines_in g old mid new None command cat jobs lines files calm opened back settles graphs holds ran = tt
+lines_in g old mid new (Some held) command cat jobs lines files calm opened back settles graphs holds ran =
     let is = holds.grid in
     let same = back holds.bytes is.n is.parts is.blocks is.grid in
     let graph = graphs holds.bytes command.chunk cat is in
+    let over = ran holds.bytes (tells (g.files mid) held command cat jobs holds files) in
+    let ended = each_ends _ _ (in_time cat (edges_in holds.bytes) (g.calm mid) settles graph.0 graph.1) jobs lines over.ended in
     record {
       cat = cat;
-      job = job;
+      jobs = jobs;
       holds = holds;
-      outcome = outcome;
-      line = refl;
-      ends = run_ends job.spec cat (edges_of_grid is.blocks) (edges_in holds.bytes) (depot_change g old new) (g.reads mid) (g.calm old) (depot_change g mid new) outcome same opened refl refl calm
-          (early job.spec cat.dimensions.n (edges_in holds.bytes) (lone_run job.spec cat.dimensions.n (edges_in holds.bytes)) settles graph.0 graph.1 refl)
-          (ends holds.bytes (tells (g.files mid) held command cat job holds files));
+      ended =
+          subst (λ (is_calm : Bool). AreLinesOfJobs (EndsInTime cat (edges_of_grid is.blocks) is_calm) jobs lines) calm
+          (subst (λ (edges : List Edge). AreLinesOfJobs (EndsInTime cat edges (g.calm mid)) jobs lines) same ended);
+      reads = λ none.
+          subst (λ (edges : List Edge). g.reads new ≡ counted_times (reads_of_run cat edges jobs) (g.reads old)) same
+          (all_reads cat (edges_in holds.bytes) jobs (g.reads old) (g.reads mid) (g.reads new) opened (over.reads none));
     }
 
-told_by_faults : (before now : ℕ) (outcome : Outcome) → FaultsFor before now outcome → IsTold outcome
-told_by_faults before now (Done rounds values) faults = tt
-told_by_faults before now (Rounds bound) faults = tt
-told_by_faults before now (Read block chunk) faults = tt
-told_by_faults before now (Changed block chunk) faults = tt
-told_by_faults before now Memory faults = faults
-
-misses : (before now : ℕ) (job : Job) (outcome : Outcome) → FaultsFor before now outcome → counted_times (failed_reads (line_of_job job outcome ∷ [])) before ≤ now
-misses before now job (Done rounds values) faults = omega (arith, faults)
-misses before now job (Rounds bound) faults = omega (arith, faults)
-misses before now job (Read block chunk) faults = faults
-misses before now job (Changed block chunk) faults = omega (arith, faults)
-misses before now job Memory faults = absurd faults
-
-served : (before now : ℕ) (job : Job) (outcome : Outcome) → FaultsFor before now outcome → failed_reads (line_of_job job outcome ∷ []) ≡ 0 → now ≡ before
-served before now job (Done rounds values) faults none = faults
-served before now job (Rounds bound) faults none = faults
-served before now job (Read block chunk) faults none = absurd (omega (arith, none))
-served before now job (Changed block chunk) faults none = faults
-served before now job Memory faults none = absurd faults
-
-pub reported : {D : Type 0} (g : Depot.Ghosts D) (old mid new : D) (command : RunCommand) (cat : Catalogue) (job : Job) (outcome : Outcome)
-    → g.files mid ≡ g.files old → g.calm mid ≡ g.calm old → g.faults mid ≡ g.faults old → g.reads mid ≡ counted (counted_times (opening_reads cat.places) (g.reads old))
-    → EdgesBack → Settles → Graphs → StatesJob cat.dimensions.n job
-    → IfSome (g.files old) (λ held. HoldsRun command held cat job)
-    → ((bytes : List ℕ) → TellsGrid (g.files mid) command.grid cat bytes → JobEnds (grid_view job.spec cat (edges_in bytes)) (pass_reads cat) (depot_change g mid new) outcome)
-    → FaultsFor (g.faults mid) (g.faults new) outcome
-    → AreReported command (depot_change g old new) (line_of_job job outcome ∷ [])
-reported g old mid new command cat job outcome files calm faults opened back settles graphs states holds ends each =
-    let each_old = subst (λ (before : ℕ). FaultsFor before (g.faults new) outcome) faults each in
-    record {
-      some = record { n = cat.dimensions.n; job = job; states = states; outcome = outcome; told = told_by_faults (g.faults old) (g.faults new) outcome each_old; line = refl };
-      told = lines_in g old mid new (g.files old) command cat job outcome files calm opened back settles graphs holds ends;
-      misses = misses (g.faults old) (g.faults new) job outcome each_old;
-      served = served (g.faults old) (g.faults new) job outcome each_old;
-    }
-
--- the line of the job that was loaded, where it has one
-pub line_reported : {D : Type 0} (g : Depot.Ghosts D) (old mid new : D) (command : RunCommand) (cat : Catalogue) (job : Job) (result : Result JobLine Failure)
-    → ReadsFiles {T = Catalogue × Job} (3 + MAX_CHUNKS) (files_reading command) (depot_change g old mid) (Ok (cat, job)) → g.reads mid ≡ counted (counted_times (opening_reads cat.places) (g.reads old))
-    → EdgesBack → Settles → Graphs → StatesJob cat.dimensions.n job
-    → IfSome (g.files old) (λ held. HoldsRun command held cat job)
-    → IfOk result (λ line. line ≡ line_of_job job line.outcome)
+-- the lines of the jobs that were loaded, where they have some
+pub lines_reported : {D : Type 0} (g : Depot.Ghosts D) (old mid new : D) (command : RunCommand) (cat : Catalogue) (jobs : Vec Job Global) (result : Result (Vec JobLine Global) Failure)
+    → ReadsFiles {T = Catalogue × Vec Job Global} (3 + MAX_CHUNKS) (files_reading command) (depot_change g old mid) (Ok (cat, jobs))
+    → g.reads mid ≡ counted (counted_times (opening_reads cat.places) (g.reads old))
+    → EdgesBack → Settles → Graphs → StatesJobs cat.dimensions.n jobs.items
+    → IfSome (g.files old) (λ held. HoldsRun command held cat jobs.items)
+    → IfOk result (λ lines. AreLinesOfJobs (λ spec outcome. IsTold outcome) jobs.items lines.items)
     → ((bytes : List ℕ) → TellsGrid (g.files mid) command.grid cat bytes
-    → IfOk result (λ line. JobEnds (grid_view job.spec cat (edges_in bytes)) (pass_reads cat) (depot_change g mid new) line.outcome))
-    → MatchResult result (λ line. FaultsFor (g.faults mid) (g.faults new) line.outcome) (λ _. g.faults new ≡ g.faults mid)
-    → IfOk result (λ line. AreReported command (depot_change g old new) (line ∷ []))
-line_reported g old mid new command cat job (Ok line) files opened back settles graphs states holds is ends faults =
-    subst (λ (l : JobLine). AreReported command (depot_change g old new) (l ∷ [])) (sym is)
-    (reported g old mid new command cat job line.outcome files.frame.files_kept files.frame.calm_kept files.ok.1 opened back settles graphs states holds ends faults)
-line_reported g old mid new command cat job (Err failure) files opened back settles graphs states holds is ends faults = tt
+    → IfOk result (λ lines. RunOver cat (edges_in bytes) (depot_change g mid new) jobs.items lines.items))
+    → IfOk result (λ lines. FaultsOf lines.items (g.faults mid) (g.faults new))
+    → IfOk result (λ lines. AreReported command (depot_change g old new) lines.items)
+lines_reported g old mid new command cat jobs (Ok lines) files opened back settles graphs states holds told ran faults =
+    record {
+      some = record { n = cat.dimensions.n; jobs = jobs.items; states = states; told = told };
+      told = lines_in g old mid new (g.files old) command cat jobs.items lines.items files.frame.files_kept files.frame.calm_kept opened back settles graphs holds ran;
+      faults = subst (λ (before : ℕ). FaultsOf lines.items before (g.faults new)) files.ok.1 faults;
+    }
+lines_reported g old mid new command cat jobs (Err failure) files opened back settles graphs states holds told ran faults = tt

@@ -1,20 +1,20 @@
 -- What the program promises of each call, whatever its words and its files are.
-use Rattle.std.specs.Prelude.{◌≡◌, ◌≤◌, ◌↔◌, ◌⊎◌, ℕ, List, [], None, IfSome, Result, Ok, Err, map, drop, string_bytes}
+use Rattle.std.specs.Prelude.{◌≡◌, ◌≤◌, ℕ, List, [], None, IfSome, Result, Ok, Err, map, drop, string_bytes}
 use Rattle.std.specs.Vec.Iter.{into_iter_items}
 use Rattle.std.specs.declared.vec.IntoIter.{IntoIter}
 use Rattle.std.specs.declared.string.String.{String}
 use Rattle.std.specs.Global.{Global}
 use Rattle.gm_outside.specs.Causes.{Rose}
-use Rattle.gm_commands.specs.Commands.{command_of}
-use Rattle.gm_commands.specs.Endings.{CommandCall, AsksNothing, IsUsageCall}
-use Rattle.gm_commands.specs.StandardError.{IsSaid, out_of_memory_line}
+use Rattle.gm_words.specs.Commands.{command_of}
+use Rattle.gm_commands.specs.Endings.{CommandCall, RefusesWords}
 use Rattle.gm_top.specs.RunEndings.{Succeeds, Fails, IsCompleteFor, KeepsFiles, Reads}
 
 -- The program's promises, by the status of the call and by the command that its words say.
 pub record KeepsPromises (call : CommandCall) : Type 0 where
-  -- 2 comes exactly where the words are no command: then nothing is asked or written but the usage line
-  pub usage : (call.status ≡ 2) ↔ (command_of call.words ≡ None)
-  pub usage_call : call.status ≡ 2 → IsUsageCall call
+  -- 2 comes only where the words are no command
+  pub usage : call.status ≡ 2 → command_of call.words ≡ None
+  -- where they are none, it is 2, or 8 where there was no memory to read them: nothing is asked or written but the line that says which
+  pub no_command : command_of call.words ≡ None → RefusesWords call
   -- on 0 and 1 the command did what it is for, with no fault and no word on standard error
   pub report : call.status ≤ 1 → IfSome (command_of call.words) (λ command. Succeeds command call)
   -- from 3 on a failure ended it that has its cause, and its line was said
@@ -29,23 +29,13 @@ pub record KeepsPromises (call : CommandCall) : Type 0 where
   pub faults : call.depot.faults ≤ call.depot.faults_now
   pub out_faults : call.out.faults ≤ call.out.faults_now
 
--- there was no memory before the words were known: nothing was asked or written but the line that says so
-pub record LacksWords (call : CommandCall) : Type 0 where
-  pub status_is : call.status ≡ 8
-  pub nothing : AsksNothing call.depot call.out
-  pub line : IsSaid out_of_memory_line call.err
-
 -- the words of a call: its arguments behind the first one, which is the program's name, and none where they can't be read as text
 abbrev pub argument_words : {E : Type 0} → Result (IntoIter (String Global) Global) E → List (List ℕ)
 argument_words (Ok arguments) = drop 1 (map string_bytes (into_iter_items arguments))
 argument_words (Err error) = []
 
--- the call keeps the promises, or there was no memory for its words
-abbrev pub ServesArguments : CommandCall → Type 0
-ServesArguments call = KeepsPromises call ⊎ LacksWords call
-
--- a call that serves its arguments ended with this status
+-- a call that keeps the promises ended with this status
 pub record EndsSomeCall (status : ℕ) : Type 0 where
   pub call : CommandCall
-  pub serves : ServesArguments call
+  pub keeps : KeepsPromises call
   pub status_is : call.status ≡ status

@@ -1,5 +1,5 @@
 -- How a call of the program ends.
-use Rattle.std.specs.Prelude.{◌≡◌, ◌≤◌, ℕ, ◌+◌, ◌⊎◌, IfSome, Result}
+use Rattle.std.specs.Prelude.{◌≡◌, ◌≤◌, ℕ, ◌+◌, ◌⊎◌, List, IfSome, Result}
 use Rattle.std.specs.FinMap.{get}
 use Rattle.gm_base.specs.declared.limits.TheConstants.{MAX_CHUNKS}
 use Rattle.gm_outside.specs.Files.{Files}
@@ -8,9 +8,9 @@ use Rattle.gm_outside.specs.Growth.{GrewBy, GrewByPrefix}
 use Rattle.gm_grid.specs.Format.{edges_of_grid}
 use Rattle.gm_label.specs.Catalogues.{Catalogue}
 use Rattle.gm_source.specs.Openings.{file_reads}
-use Rattle.gm_jobs.specs.declared.stated_job.Job.{Job}
+use Rattle.gm_jobs.specs.declared.job.Job.{Job}
 use Rattle.gm_commands.specs.declared.failure.Failure.{Failure}
-use Rattle.gm_commands.specs.Commands.{Command, run, build, info, RunCommand}
+use Rattle.gm_words.specs.Commands.{Command, run, build, info, RunCommand}
 use Rattle.gm_commands.specs.declared.failure.Failure.TheVariants.{Refused, ReadFailed, WriteFailed, OutputFailed, OutOfMemory}
 use Rattle.gm_commands.specs.Readings.{Reading, IsReadingFailure}
 use Rattle.gm_commands.specs.Endings.{CommandCall, Handles, LeavesPart, HasSucceeded, HasFailed, IsComplete}
@@ -71,9 +71,9 @@ OpenedFew command depot files =
 -- no more was read than the whole run takes
 pub record RanFew (command : RunCommand) (depot : DepotChange) (files : Files) : Type 0 where
   pub cat : Catalogue
-  pub job : Job
-  pub holds : HoldsRun command files cat job
-  pub few : depot.reads_now ≤ depot.reads + reads_of_run job.spec cat (edges_of_grid holds.grid.blocks)
+  pub jobs : List Job
+  pub holds : HoldsRun command files cat jobs
+  pub few : depot.reads_now ≤ depot.reads + reads_of_run cat (edges_of_grid holds.grid.blocks) jobs
 
 -- How often a run reads its files. No status stands behind more reads than the whole run takes. Where the files are refused or can't be
 -- read, only the grid was opened and the job text was read.

@@ -1,22 +1,45 @@
 -- How a run reads its files: first the grid, and then the jobs.
-use Rattle.std.specs.Prelude.{◌≡◌, ℕ, is_none, true, if◌then◌else◌, List, Option, Some, None}
+use Rattle.std.specs.Prelude.{◌≡◌, ℕ, true, List, Option, Some, None, Result, Ok, Err}
 use Rattle.std.specs.FinMap.{get}
 use Rattle.gm_outside.specs.Files.{Files}
 use Rattle.gm_grid.specs.GridBytes.{shape_in}
 use Rattle.gm_label.specs.Catalogues.{Catalogue}
 use Rattle.gm_source.specs.Openings.{IsCatalogueOf}
-use Rattle.gm_jobs.specs.declared.stated_job.Job.{Job}
-use Rattle.gm_jobs.specs.JobText.{job_of_text}
+use Rattle.gm_jobs.specs.declared.job.Job.{Job}
+use Rattle.gm_jobs.specs.declared.jobs_error.JobsRefusal.{JobsRefusal}
+use Rattle.gm_jobs.specs.declared.script.Line.{Line}
+use Rattle.gm_jobs.specs.BuiltJobs.{built_jobs, stated_jobs}
+use Rattle.gm_jobs.specs.Scripts.{script_of}
 use Rattle.gm_commands.specs.declared.failure.Operand.TheVariants as operand
+use Rattle.gm_commands.specs.declared.failure.Failure.{Failure}
+use Rattle.gm_commands.specs.declared.failure.Failure.TheVariants.{Refused, ReadFailed, WriteFailed, OutputFailed, OutOfMemory}
 use Rattle.gm_commands.specs.declared.failure.Refusal.{Refusal}
-use Rattle.gm_commands.specs.declared.failure.Refusal.TheVariants.{NotBuiltYet}
-use Rattle.gm_commands.specs.Commands.{RunCommand}
+use Rattle.gm_commands.specs.declared.failure.Refusal.TheVariants.{JobText, NotBuiltYet}
+use Rattle.gm_words.specs.Commands.{RunCommand}
 use Rattle.gm_commands.specs.Readings.{Reading, reading_of_file, reading_then}
 use Rattle.gm_tools.specs.Grids.{grid_reading}
 
--- why this text states no job for a graph of n vertices
+-- a script all of whose entries are built is taken
+abbrev pub unbuilt_refusal : Option (List Job) → Option Refusal
+unbuilt_refusal None = Some NotBuiltYet
+unbuilt_refusal (Some jobs) = None
+
+-- what was read is refused as a job text first
+abbrev pub script_refusal : Result (List Line) JobsRefusal → Option Refusal
+script_refusal (Ok entries) = unbuilt_refusal (built_jobs entries)
+script_refusal (Err refusal) = Some (JobText refusal)
+
+-- why this text is refused for a graph of n vertices
 abbrev pub jobs_text_refusal : ℕ → List ℕ → Option Refusal
-jobs_text_refusal n text = if is_none (job_of_text n text) then Some NotBuiltYet else None
+jobs_text_refusal n text = script_refusal (script_of n text)
+
+-- the failure is the refusal that is expected, or want of memory
+abbrev pub IsRefusalOrMemory : Option Refusal → Failure → Type 0
+IsRefusalOrMemory expected (Refused refusal) = expected ≡ Some refusal
+IsRefusalOrMemory expected (ReadFailed operand) = ⊥
+IsRefusalOrMemory expected (WriteFailed operand) = ⊥
+IsRefusalOrMemory expected OutputFailed = ⊥
+IsRefusalOrMemory expected OutOfMemory = Unit {0}
 
 -- of the jobs, for a graph of n vertices
 abbrev pub jobs_reading : RunCommand → ℕ → Reading
@@ -41,20 +64,20 @@ files_reading command = reading_then (grid_reading command.grid command.chunk) (
 abbrev pub run_reading : RunCommand → Reading
 run_reading command = record (files_reading command) { fetches = true }
 
--- the file tells a job for a graph of n vertices
-pub record TellsJob (files : Files) (name : List ℕ) (n : ℕ) (job : Job) : Type 0 where
+-- the file states these jobs for a graph of n vertices
+pub record TellsJobs (files : Files) (name : List ℕ) (n : ℕ) (jobs : List Job) : Type 0 where
   pub text : List ℕ
   pub file : get files name ≡ Some text
-  pub tells : job_of_text n text ≡ Some job
+  pub tells : stated_jobs n text ≡ Some jobs
 
--- The files of a run: a grid, cut into chunks, and a job of it.
-pub record HoldsRun (command : RunCommand) (files : Files) (cat : Catalogue) (job : Job) : Type 0 where
+-- The files of a run: a grid, cut into chunks, and jobs over it.
+pub record HoldsRun (command : RunCommand) (files : Files) (cat : Catalogue) (jobs : List Job) : Type 0 where
   pub bytes : List ℕ
   pub grid_file : get files command.grid ≡ Some bytes
   pub grid : IsCatalogueOf bytes command.chunk cat
-  pub jobs : TellsJob files command.jobs cat.dimensions.n job
+  pub told_jobs : TellsJobs files command.jobs cat.dimensions.n jobs
 
--- some text states this job for a graph of n vertices
-pub record StatesJob (n : ℕ) (job : Job) : Type 0 where
+-- some text states these jobs for a graph of n vertices
+pub record StatesJobs (n : ℕ) (jobs : List Job) : Type 0 where
   pub text : List ℕ
-  pub states : job_of_text n text ≡ Some job
+  pub states : stated_jobs n text ≡ Some jobs

@@ -1,50 +1,74 @@
-//! One run: the files, the job over the grid's chunks, and the report.
+//! One run: the files, the jobs over the grid's chunks, and the report.
 
-ghost use Rattle.std.specs.Prelude.{◌≡◌, ◌+◌, ◌≤◌, ℕ, List, [], ◌∷◌, length, IfOk, OnOk, IfErr, IfSome, MatchResult};
+ghost use Rattle.std.specs.Prelude.{◌≡◌, ◌+◌, ◌≤◌, ℕ, List, [], ◌∷◌, length, All, Some, None, IfOk, OnOk, IfErr, IfSome, MatchResult};
+ghost use Rattle.std.specs.List.{list_any};
 ghost use Rattle.gm_base.specs.declared.limits.TheConstants.{MAX_CHUNKS, MAX_CHUNK_SIZE, MAX_VERTICES};
 ghost use Rattle.gm_outside.specs.Calls.{depot_change, sink_change};
 ghost use Rattle.gm_outside.specs.Causes.{counted, counted_times};
 ghost use Rattle.gm_grid.specs.GridBytes.{edges_in};
 ghost use Rattle.gm_kernel.specs.Runs.{most_rounds};
 ghost use Rattle.gm_source.specs.Openings.{opening_reads};
+ghost use Rattle.gm_job_run.specs.JobLines.{AreLinesOfJobs, FaultsOf, IsTold, RunOver, runs_weight};
 ghost use Rattle.gm_source.specs.Fetches.{TellsGrid};
-ghost use Rattle.gm_job_run.specs.JobRuns.{JobEnds, FaultsFor, ReadsSome, pass_reads};
-ghost use Rattle.gm_work.specs.Held.{grid_view};
-ghost use Rattle.gm_work.specs.Weights.{run_weight};
+ghost use Rattle.gm_jobs.specs.BuiltJobs.{stated_jobs};
+ghost use Rattle.gm_job_run.specs.JobRuns.{ReadsSome};
 ghost use Rattle.gm_commands.specs.Readings.{AreTaken, ReadsFiles};
-ghost use Rattle.gm_commands.specs.Commands.{run_said};
+ghost use Rattle.gm_words.specs.Commands.{run_said};
 ghost use Rattle.gm_commands.specs.Endings.{Handles};
 ghost use Rattle.gm_commands.specs.Failures.{status_of};
 ghost use Rattle.gm_top.specs.RunEndings.{OpenedFew, ReadsRun, IsRunFailure, RunPerforms, RunLeaves};
-ghost use Rattle.gm_top.specs.RunReports.{line_of_job, AreReported, status_after};
-ghost use Rattle.gm_top.specs.RunReadings.{jobs_reading, files_reading, run_reading, HoldsRun, TellsJob, StatesJob};
+ghost use Rattle.gm_top.specs.RunReports.{AreReported, is_failed, status_after};
+ghost use Rattle.gm_top.specs.RunReadings.{IsRefusalOrMemory, jobs_text_refusal, jobs_reading, files_reading, run_reading, HoldsRun, TellsJobs, StatesJobs};
 
 use gm_base::{JobLine, Memory, Outcome};
-use gm_commands::{Failure, FileText, Operand, Refusal, RunCommand, read_file};
+use gm_commands::{Failure, FileText, Operand, Refusal, read_file};
 use gm_grid::laws::grid_reads_back;
-use gm_job_run::run_job;
-use gm_jobs::laws::{jobs_make_some_round, long_text_states_no_job};
-use gm_jobs::{Job, MAX_TEXT_BYTES, read_job};
+use gm_job_run::run_jobs;
+use gm_jobs::laws::{long_text_is_refused, stated_jobs_make_some_round};
+use gm_jobs::{Job, JobsRefusal, MAX_TEXT_BYTES, built_jobs, read};
 use gm_kernel::laws::jobs_settle_by_round_n;
 use gm_label::Catalogue;
 use gm_outside::{Depot, Sink};
 use gm_report::write;
 use gm_source::laws::catalogues_are_over_their_edges;
 use gm_tools::load_grid;
+use gm_words::RunCommand;
 use std::alloc::Global;
-use std::slice;
 use std::sync::Arc;
 
-/// The job of the command, for a graph of n vertices. A text that is too long isn't read.
-fn load_job<D: Depot>(
+/// The jobs that a text states, for a graph of n vertices.
+fn jobs_of_text(alloc: Global, text: &[u8], n: u32) -> Result<Vec<Job>, Failure>
+    requires { (1 ≤ n) × (n ≤ MAX_VERTICES) }
+    ensures stated { IfOk result (λ jobs. stated_jobs n text.now ≡ Some jobs.items) }
+    ensures taken { OnOk result (jobs_text_refusal n text.now ≡ None) }
+    ensures err { IfErr result (IsRefusalOrMemory (jobs_text_refusal n text.now)) }
+{
+    let script = match read(alloc, text, n) {
+        Ok(script) => script,
+        Err(error) => {
+            return Err(match error.refusal() {
+                Some(refusal) => Failure::Refused(Refusal::JobText(refusal)),
+                None => Failure::OutOfMemory,
+            });
+        }
+    };
+    match built_jobs(alloc, script) {
+        Ok(Some(jobs)) => Ok(jobs),
+        Ok(None) => Err(Failure::Refused(Refusal::NotBuiltYet)),
+        Err(Memory) => Err(Failure::OutOfMemory),
+    }
+}
+
+/// The jobs of the command, for a graph of n vertices. A text that is too long isn't read.
+fn load_jobs<D: Depot>(
     alloc: Global,
     depot: &mut D,
     command: &RunCommand<'_>,
     n: u32,
-) -> Result<Job, Failure>
+) -> Result<Vec<Job>, Failure>
     requires { (1 ≤ n) × (n ≤ MAX_VERTICES) }
-    ensures tells { IfSome (D.files depot.old) (λ files. IfOk result (λ job. TellsJob files command.now.jobs.now n job)) }
-    ensures states { IfOk result (λ job. StatesJob n job) }
+    ensures tells { IfSome (D.files depot.old) (λ files. IfOk result (λ jobs. TellsJobs files command.now.jobs.now n jobs.items)) }
+    ensures states { IfOk result (λ jobs. StatesJobs n jobs.items) }
     ensures read { OnOk result (D.reads depot.new ≡ counted (D.reads depot.old)) }
     ensures reads { ReadsFiles 1 (jobs_reading (run_said command.now) n) (depot_change ⟦<D as Depot>⟧ depot.old depot.new) result }
 {
@@ -56,81 +80,72 @@ fn load_job<D: Depot>(
         MAX_TEXT_BYTES as u64,
     )? {
         FileText::Whole(text) => text,
-        FileText::Longer(_) => {
-            long_text_states_no_job();
-            return Err(Failure::Refused(Refusal::NotBuiltYet));
+        FileText::Longer(bytes) => {
+            long_text_is_refused();
+            let refusal = JobsRefusal::TooLong { bytes };
+            return Err(Failure::Refused(Refusal::JobText(refusal)));
         }
     };
-    match read_job(alloc, &text, n) {
-        Ok(Some(job)) => Ok(job),
-        Ok(None) => Err(Failure::Refused(Refusal::NotBuiltYet)),
-        Err(Memory) => Err(Failure::OutOfMemory),
-    }
+    jobs_of_text(alloc, &text, n)
 }
 
-/// The catalogue of the command's grid, and its job.
+/// The catalogue of the command's grid, and its jobs.
 fn load<D: Depot>(
     alloc: Global,
     depot: &mut D,
     command: &RunCommand<'_>,
-) -> Result<(Catalogue, Job), Failure>
+) -> Result<(Catalogue, Vec<Job>), Failure>
     requires { (1 ≤ command.now.chunk) × (command.now.chunk ≤ MAX_CHUNK_SIZE) }
-    ensures holds { IfOk result (λ loaded. IfSome (D.files depot.old) (λ files. HoldsRun (run_said command.now) files loaded.0 loaded.1)) }
-    ensures states { IfOk result (λ loaded. StatesJob loaded.0.dimensions.n loaded.1) }
+    ensures holds { IfOk result (λ loaded. IfSome (D.files depot.old) (λ files. HoldsRun (run_said command.now) files loaded.0 loaded.1.items)) }
+    ensures states { IfOk result (λ loaded. StatesJobs loaded.0.dimensions.n loaded.1.items) }
     ensures read { IfOk result (λ loaded. D.reads depot.new ≡ counted (counted_times (opening_reads loaded.0.places) (D.reads depot.old))) }
     ensures few { IfSome (D.files depot.old) (OpenedFew (run_said command.now) (depot_change ⟦<D as Depot>⟧ depot.old depot.new)) }
-    ensures some_round { IfOk result (λ loaded. 1 ≤ most_rounds loaded.1.spec) }
+    ensures some_rounds { IfOk result (λ loaded. All (λ (job : Job). 1 ≤ most_rounds job.spec) loaded.1.items) }
     ensures reads { ReadsFiles (3 + MAX_CHUNKS) (files_reading (run_said command.now)) (depot_change ⟦<D as Depot>⟧ depot.old depot.new) result }
 {
     grid_reads_back();
-    jobs_make_some_round();
+    stated_jobs_make_some_round();
     let cat = load_grid(alloc, depot, command.grid, command.chunk)?;
     let n = cat.shape().n();
-    let job = load_job(alloc, depot, command, n)?;
-    Ok((cat, job))
+    let jobs = load_jobs(alloc, depot, command, n)?;
+    Ok((cat, jobs))
 }
 
-/// The line of a job that was loaded, run over the grid of this name.
+/// The lines of the jobs that were loaded, run over the grid of this name.
 fn run_loaded<D: Depot>(
     alloc: Global,
     depot: &mut D,
     name: &str,
     cat: Catalogue,
-    job: Job,
-) -> Result<JobLine, Failure>
-    requires { 1 ≤ most_rounds job.spec }
-    ensures line { IfOk result (λ line. line ≡ line_of_job job line.outcome) }
+    jobs: Vec<Job>,
+) -> Result<Vec<JobLine>, Failure>
+    requires { All (λ (job : Job). 1 ≤ most_rounds job.spec) jobs.items }
+    ensures lines { IfOk result (λ lines. AreLinesOfJobs (λ spec outcome. IsTold outcome) jobs.items lines.items) }
     ensures ends { (bytes : List ℕ) → TellsGrid (D.files depot.old) name.now cat bytes
-        → IfOk result (λ line. JobEnds (grid_view job.spec cat (edges_in bytes)) (pass_reads cat)
-        (depot_change ⟦<D as Depot>⟧ depot.old depot.new) line.outcome) }
+        → IfOk result (λ lines. RunOver cat (edges_in bytes) (depot_change ⟦<D as Depot>⟧ depot.old depot.new) jobs.items lines.items) }
     ensures few { (bytes : List ℕ) → TellsGrid (D.files depot.old) name.now cat bytes
-        → D.reads depot.new ≤ D.reads depot.old + run_weight (grid_view job.spec cat (edges_in bytes)) (pass_reads cat) }
-    ensures faults { MatchResult result (λ line. FaultsFor (D.faults depot.old) (D.faults depot.new) line.outcome)
-        (λ _. D.faults depot.new ≡ D.faults depot.old) }
+        → D.reads depot.new ≤ D.reads depot.old + runs_weight cat (edges_in bytes) jobs.items }
+    ensures faults { IfOk result (λ lines. FaultsOf lines.items (D.faults depot.old) (D.faults depot.new)) }
     ensures memory { IfErr result (λ failure. failure ≡ Failure.OutOfMemory) }
     ensures frame { ReadsSome (depot_change ⟦<D as Depot>⟧ depot.old depot.new) }
 {
     let Ok(cat) = Arc::new(alloc, cat) else {
         return Err(Failure::OutOfMemory);
     };
-    match run_job(alloc, depot, name, cat, job.spec) {
-        Ok(outcome) => Ok(JobLine {
-            name: job.name,
-            version: 0,
-            outcome,
-        }),
+    match run_jobs(alloc, depot, name, &cat, jobs) {
+        Ok(lines) => Ok(lines),
         Err(Memory) => Err(Failure::OutOfMemory),
     }
 }
 
-/// The line of the command's job.
+/// The lines of the command's jobs.
 fn compute<D: Depot>(
     alloc: Global,
     depot: &mut D,
     command: &RunCommand<'_>,
-) -> Result<JobLine, Failure>
+) -> Result<Vec<JobLine>, Failure>
     requires { (1 ≤ command.now.chunk) × (command.now.chunk ≤ MAX_CHUNK_SIZE) }
-    ensures line { IfOk result (λ line. AreReported (run_said command.now) (depot_change ⟦<D as Depot>⟧ depot.old depot.new) (line ∷ [])) }
+    ensures lines { IfOk result (λ lines. AreReported (run_said command.now) (depot_change ⟦<D as Depot>⟧ depot.old depot.new) lines.items) }
     ensures taken { OnOk result (AreTaken (run_reading (run_said command.now)) (D.files depot.old)) }
     ensures err { IfErr result (IsRunFailure (run_said command.now) (depot_change ⟦<D as Depot>⟧ depot.old depot.new)) }
     ensures reads { MatchResult result (λ _. ReadsRun (run_said command.now) (depot_change ⟦<D as Depot>⟧ depot.old depot.new) 0)
@@ -139,22 +154,33 @@ fn compute<D: Depot>(
     grid_reads_back();
     jobs_settle_by_round_n();
     catalogues_are_over_their_edges();
-    let (cat, job) = load(alloc, depot, command)?;
-    run_loaded(alloc, depot, command.grid, cat, job)
+    let (cat, jobs) = load(alloc, depot, command)?;
+    run_loaded(alloc, depot, command.grid, cat, jobs)
 }
 
-/// The status after a report of this one line: 1 where it tells of a failure.
-fn status_after(line: &JobLine) -> u8
-    ensures value { result ≡ status_after (line.now ∷ []) }
+/// Whether a line tells of a failure.
+fn is_failed(line: &JobLine) -> bool
+    ensures { result ≡ is_failed line.now }
+{
+    !matches!(line.outcome, Outcome::Done { .. })
+}
+
+/// Whether one of the lines tells of a failure.
+fn any_failed(lines: &[JobLine]) -> bool
+    ensures { result ≡ list_any is_failed lines.now }
+{
+    lines.iter().any(|line| is_failed(line))
+}
+
+/// The status after a report of these lines: 1 where one of them tells of a failure.
+fn status_after(lines: &[JobLine]) -> u8
+    ensures value { result ≡ status_after lines.now }
     ensures small { result ≤ 1 }
 {
-    match line.outcome {
-        Outcome::Done { .. } => 0,
-        _ => 1,
-    }
+    if any_failed(lines) { 1 } else { 0 }
 }
 
-/// Runs the command's job and writes its report. The answer is the status after it, 1 exactly where the job failed.
+/// Runs the command's jobs and writes their report. The answer is the status after it, 1 exactly where a job failed.
 pub(crate) fn run<D: Depot, K: Sink>(
     alloc: Global,
     command: &RunCommand<'_>,
@@ -169,9 +195,9 @@ pub(crate) fn run<D: Depot, K: Sink>(
         (λ failure. ReadsRun (run_said command.now) (depot_change ⟦<D as Depot>⟧ depot.old depot.new) (status_of failure)) }
     ensures out_faults { K.faults out.old ≤ K.faults out.new }
 {
-    let line = compute(alloc, depot, command)?;
-    match write(slice::from_ref(&line), out) {
-        Ok(()) => Ok(status_after(&line)),
+    let lines = compute(alloc, depot, command)?;
+    match write(&lines, out) {
+        Ok(()) => Ok(status_after(&lines)),
         Err(trouble) => Err(Failure::OutputFailed.by(trouble)),
     }
 }

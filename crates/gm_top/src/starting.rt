@@ -5,7 +5,7 @@ ghost use Rattle.std.specs.Vec.Iter.{into_iter_items};
 ghost use Rattle.std.specs.Process.{exit_status};
 ghost use Rattle.gm_outside.specs.Calls.{depot_change, sink_change};
 ghost use Rattle.gm_commands.specs.Endings.{call_of};
-ghost use Rattle.gm_top.specs.Promises.{argument_words, ServesArguments};
+ghost use Rattle.gm_top.specs.Promises.{argument_words, KeepsPromises};
 
 use crate::top_call::graphm;
 use gm_base::{Memory, Words};
@@ -51,7 +51,7 @@ pub fn program<R: AllocGlobal, D: Depot + Send, K: Sink, E: Sink, G: Gate + Send
     err: &mut E,
     gate: G,
 ) -> (ExitCode, D)
-    ensures { ServesArguments (call_of (argument_words arguments) (depot_change ⟦<D as Depot>⟧ depot result.1)
+    ensures { KeepsPromises (call_of (argument_words arguments) (depot_change ⟦<D as Depot>⟧ depot result.1)
         (sink_change ⟦<K as Sink>⟧ out.old out.new) (sink_change ⟦<E as Sink>⟧ err.old err.new) (exit_status result.0)) }
 {
     let words = gather_words(rt.alloc(), arguments);

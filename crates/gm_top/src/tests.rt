@@ -1,5 +1,6 @@
 //! The whole path over files in memory: texts, statuses, and each call failing in turn.
 mod grids;
+mod jobs;
 mod refusals;
 
 use crate::{graphm, program};
@@ -536,7 +537,7 @@ fn padded(rt: &HostRuntime, front: &[u8], length: usize, byte: u8) -> Result<Vec
 /// A text of 1,048,576 bytes is read, a longer one is refused by its size.
 #[test]
 fn a_long_job_text_is_refused_unread(rt: HostRuntime) -> Result<(), Fail> {
-    let refusal = b"graphm: j.txt: not built yet\n".as_slice();
+    let refusal = b"graphm: j.txt: longer than 1048576 bytes\n".as_slice();
     for (length, status, out, line) in [
         (1_048_576, 0, REPORT, b"".as_slice()),
         (1_048_577, 5, b"", refusal),

@@ -2,17 +2,18 @@
 
 ghost use Rattle.std.specs.Prelude.{◌≡◌, ◌≤◌, IfOk, MatchResult};
 ghost use Rattle.gm_outside.specs.Calls.{depot_change, sink_change};
-ghost use Rattle.gm_commands.specs.Commands.{said, HasChunkSize};
+ghost use Rattle.gm_words.specs.Commands.{said, HasChunkSize};
 ghost use Rattle.gm_commands.specs.Endings.{call_of};
 ghost use Rattle.gm_commands.specs.Failures.{status_of};
 ghost use Rattle.gm_top.specs.RunEndings.{CommandHandles, Reads, KeepsFiles, most_success, IsCompleteFor};
 ghost use Rattle.gm_top.specs.Promises.{KeepsPromises};
 
 use crate::run_call::run;
-use gm_base::Words;
-use gm_commands::{Command, Failure, conclude, read_command, say_usage};
+use gm_base::{Memory, Words};
+use gm_commands::{Failure, conclude, say_out_of_memory, say_usage};
 use gm_outside::{Depot, Gate, Sink};
 use gm_tools::{run_build, run_info};
+use gm_words::{Command, read_words};
 use std::sync::Arc;
 
 /// Does what the command says. The answer is the status after it.
@@ -61,10 +62,18 @@ pub fn graphm<R: AllocGlobal, D: Depot + Send, K: Sink, E: Sink, G: Gate + Send 
 {
     let mut depot = depot;
     drop(gate);
-    let Some(command) = read_command(words) else {
-        say_usage(err);
-        return (2, depot);
-    };
-    let outcome = perform(rt, &command, &mut depot, out);
-    (conclude(err, &command, outcome), depot)
+    match read_words(rt.alloc(), words) {
+        Ok(Some(command)) => {
+            let outcome = perform(rt, &command, &mut depot, out);
+            (conclude(err, &command, outcome), depot)
+        }
+        Ok(None) => {
+            say_usage(err);
+            (2, depot)
+        }
+        Err(Memory) => {
+            say_out_of_memory(err);
+            (8, depot)
+        }
+    }
 }

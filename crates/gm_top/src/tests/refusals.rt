@@ -15,7 +15,7 @@ const REFUSED: [(&str, u8, &[u8]); 12] = [
     (
         "run a.grid a.grid 1 1",
         5,
-        b"graphm: a.grid: not built yet\n",
+        b"graphm: a.grid: line 1: unknown word\n",
     ),
     (
         "run j.txt j.txt 1 1",

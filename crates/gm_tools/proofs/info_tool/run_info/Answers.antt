@@ -4,7 +4,7 @@ use Rattle.gm_outside.specs.Calls.{depot_change, sink_change}
 use Rattle.gm_outside.specs.Frames.{Writes}
 use Rattle.gm_label.specs.Catalogues.{Catalogue}
 use Rattle.gm_commands.specs.declared.failure.Failure.{Failure}
-use Rattle.gm_commands.specs.Commands.{info_said}
+use Rattle.gm_words.specs.Commands.{info_said}
 use Rattle.gm_commands.specs.Readings.{ReadsFiles}
 use Rattle.gm_tools.specs.Grids.{grid_reading}
 use Rattle.gm_tools.proofs.Informing.{Counts, of_grid, informed, informed_partly}

@@ -1,0 +1,117 @@
+//! Job texts of several jobs, and job texts that are refused, each in a run over the path's grid.
+use super::{PATH, REPORT, RUN, call_over, check_end, depot_of, run_job};
+use gm_fakes::Call;
+use std::test::Fail;
+
+const TWO_JOBS: &[u8] = b"job a bfs 0\njob b bfs 1\n";
+
+const TWO_REPORTS: &[u8] =
+    b"job a version 0 done rounds 3\n0 0\n1 1\n2 1\n3 2\njob b version 0 done rounds 3\n0 -\n1 0\n2 1\n3 2\n";
+
+const STOPPED: &[u8] = b"job a bfs 0 rounds 1\njob b bfs 1 rounds 3";
+
+const STOPPED_REPORTS: &[u8] =
+    b"job a version 0 failed rounds 1\njob b version 0 done rounds 3\n0 -\n1 0\n2 1\n3 2\n";
+
+/// Job texts that are run, the status and the report, and how many reads the run makes. Expected values were worked out by hand.
+const RUN_TEXTS: [(&[u8], u8, &[u8], u64); 5] = [
+    (TWO_JOBS, 0, TWO_REPORTS, 13),
+    (STOPPED, 1, STOPPED_REPORTS, 11),
+    (b"wait 5\r\n\tjob a bfs 0\nwait 1", 0, REPORT, 11),
+    (b"", 0, b"", 7),
+    (b"# nothing\n\nwait 3\n", 0, b"", 7),
+];
+
+#[test]
+fn job_texts_are_run(rt: HostRuntime) -> Result<(), Fail> {
+    for (text, status, report, reads) in RUN_TEXTS {
+        let end = run_job(&rt, RUN, PATH, text)?;
+        let case = format!(in rt.alloc(); "{text:?}")?;
+        check_end(&rt, &end, (status, report, b""), &case);
+        assert_eq!(rt; end.depot.reads(), reads, "{case}");
+    }
+    Ok(())
+}
+
+/// Job texts that are refused, and what the line says behind the file's name.
+const REFUSED_TEXTS: [(&[u8], &str); 9] = [
+    (b"update\n", "not built yet"),
+    (b"job a bfs 0\nmutate add 0 3 1\n", "not built yet"),
+    (b"update\njob a bfs 4\n", "line 2: no such vertex"),
+    (b"job a bfs 0\nadd 0 1 1\n", "line 2: out of place"),
+    (b"job a bfs 0\n\njob a wcc\n", "line 3: name used twice"),
+    (b"job a wcc\njob A wcc rounds\n", "line 2: line too short"),
+    (b"job a rank 1 rounds 2\n", "line 1: line too long"),
+    (b"job a! wcc\njobs b wcc\n", "line 1: bad name"),
+    (b"job a rank 0\n", "line 1: bad number"),
+];
+
+#[test]
+fn job_texts_are_refused(rt: HostRuntime) -> Result<(), Fail> {
+    for (text, reason) in REFUSED_TEXTS {
+        let end = run_job(&rt, RUN, PATH, text)?;
+        let line = format!(in rt.alloc(); "graphm: j.txt: {reason}\n")?;
+        check_end(&rt, &end, (5, b"", line.as_bytes()), reason);
+        assert_eq!(rt; end.depot.reads(), 7, "{reason}");
+    }
+    Ok(())
+}
+
+/// So many jobs, one a line.
+fn jobs_text(rt: &HostRuntime, count: u32) -> Result<String, Fail> {
+    let mut text = String::new(rt.alloc());
+    for job in 0..count {
+        text.push_str(&format!(in rt.alloc(); "job a{job} bfs 3\n")?)?;
+    }
+    Ok(text)
+}
+
+#[test]
+fn the_65th_job_is_refused(rt: HostRuntime) -> Result<(), Fail> {
+    let end = run_job(&rt, RUN, PATH, jobs_text(&rt, 65)?.as_bytes())?;
+    let line = b"graphm: j.txt: line 65: too many jobs\n";
+    check_end(&rt, &end, (5, b"", line), "65 jobs");
+    let end = run_job(&rt, RUN, PATH, jobs_text(&rt, 64)?.as_bytes())?;
+    assert_eq!(rt; end.status, 0);
+    assert_eq!(rt; end.depot.reads(), 7);
+    assert!(rt;
+        end.out
+            .written()
+            .ends_with(b"job a63 version 0 done rounds 1\n0 -\n1 -\n2 -\n3 0\n"),
+        "the last of 64 jobs"
+    );
+    Ok(())
+}
+
+/// The read that fails, what the report says, and how many reads are made.
+const FAILING_FETCHES: [(u64, &[u8], u64); 3] = [
+    (
+        8,
+        b"job a version 0 failed read 0 0\njob b version 0 done rounds 3\n0 -\n1 0\n2 1\n3 2\n",
+        10,
+    ),
+    (
+        11,
+        b"job a version 0 failed read 3 4\njob b version 0 done rounds 3\n0 -\n1 0\n2 1\n3 2\n",
+        13,
+    ),
+    (
+        13,
+        b"job a version 0 done rounds 3\n0 0\n1 1\n2 1\n3 2\njob b version 0 failed read 3 4\n",
+        13,
+    ),
+];
+
+#[test]
+fn a_failed_job_ends_itself_alone(rt: HostRuntime) -> Result<(), Fail> {
+    for (read, report, reads) in FAILING_FETCHES {
+        let mut depot = depot_of(&rt, PATH, vec![in rt.alloc(); (Call::Read, read)]?)?;
+        depot.put("j.txt", TWO_JOBS)?;
+        let end = call_over(&rt, RUN, depot)?;
+        let case = format!(in rt.alloc(); "read {read}")?;
+        check_end(&rt, &end, (1, report, b""), &case);
+        assert_eq!(rt; end.depot.reads(), reads, "{case}");
+        assert_eq!(rt; end.depot.faults(), 1, "{case}");
+    }
+    Ok(())
+}
