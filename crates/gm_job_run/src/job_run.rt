@@ -20,7 +20,7 @@ use gm_base::{ChunkCopy, Edges, Memory, Outcome, Spec, Turned};
 use gm_label::{Catalogue, Overlays};
 use gm_outside::Depot;
 use gm_source::laws::catalogues_are_over_their_edges;
-use gm_source::{FetchError, fetch};
+use gm_source::{FetchError, Fetcher};
 use gm_work::Work;
 use gm_work::laws::{
     begins, determined, grids_are_cut, owed_chunks, passes, turns, turns_end, weight_is_left,
@@ -52,7 +52,7 @@ fn stop_of(chunk: u32, error: FetchError) -> Stop
 
 /// The edges of a chunk, fetched for a job.
 fn fetch_edges<D: Depot>(
-    alloc: Global,
+    fetcher: &mut Fetcher,
     depot: &mut D,
     chunk: u32,
     name: &str,
@@ -68,7 +68,7 @@ fn fetch_edges<D: Depot>(
     ensures faults { MatchResult result (λ edges. D.faults depot.new ≡ D.faults depot.old) (StopFaults (D.faults depot.old) (D.faults depot.new)) }
     ensures frame { OnlyReads (pass_reads cat.now chunk) (depot_change ⟦<D as Depot>⟧ depot.old depot.new) }
 {
-    match fetch(alloc, depot, name, cat, chunk) {
+    match fetcher.fetch(cat, chunk, depot, name) {
         Ok(raw) => Ok(raw.edges),
         Err(error) => Err(stop_of(chunk, error)),
     }
@@ -76,7 +76,7 @@ fn fetch_edges<D: Depot>(
 
 /// Fetches a chunk that the job owes, and passes it.
 fn pass_chunk<D: Depot>(
-    alloc: Global,
+    fetcher: &mut Fetcher,
     depot: &mut D,
     name: &str,
     work: &mut Work,
@@ -94,15 +94,17 @@ fn pass_chunk<D: Depot>(
     determined();
     owed_chunks();
     weight_is_left();
-    let edges = fetch_edges(alloc, depot, chunk, name, work.catalogue())?;
+    let edges = fetch_edges(fetcher, depot, chunk, name, work.catalogue())?;
     let key = work.key(chunk);
-    work.pass(&ChunkCopy { key, edges });
+    let copy = ChunkCopy { key, edges };
+    work.pass(&copy);
+    fetcher.give_back(copy.edges);
     Ok(())
 }
 
 /// Passes every chunk that the job owes in its phase, the least first.
 fn pass_owed<D: Depot>(
-    alloc: Global,
+    fetcher: &mut Fetcher,
     depot: &mut D,
     name: &str,
     work: &mut Work,
@@ -116,7 +118,7 @@ fn pass_owed<D: Depot>(
     let chunks = work.catalogue().chunks();
     let mut from = 0;
     while let Some(chunk) = work.least_owed(from, chunks) {
-        pass_chunk(alloc, depot, name, work, chunk)?;
+        pass_chunk(fetcher, depot, name, work, chunk)?;
         from = chunk + 1;
     }
     Ok(())
@@ -124,7 +126,7 @@ fn pass_owed<D: Depot>(
 
 /// Makes the phases of a job up to its end: each passes what the job owes, and turns it. The answer is the turn that ended it.
 fn make_phases<D: Depot>(
-    alloc: Global,
+    fetcher: &mut Fetcher,
     depot: &mut D,
     name: &str,
     work: &mut Work,
@@ -140,7 +142,7 @@ fn make_phases<D: Depot>(
     grids_are_cut();
     catalogues_are_over_their_edges();
     loop {
-        pass_owed(alloc, depot, name, work)?;
+        pass_owed(fetcher, depot, name, work)?;
         match work.turn() {
             Turned::Owes => {}
             ended => return Ok(ended),
@@ -202,7 +204,8 @@ pub fn run_job<D: Depot>(
     begins();
     weight_is_left();
     let mut work = Work::admit(alloc, 0, spec, cat, Overlays::new(alloc))?;
-    match make_phases(alloc, depot, name, &mut work) {
+    let mut fetcher = Fetcher::new(alloc);
+    match make_phases(&mut fetcher, depot, name, &mut work) {
         Ok(turned) => Ok(outcome_of_turn(turned, work)),
         Err(stop) => outcome_of_stop(work.catalogue(), stop),
     }

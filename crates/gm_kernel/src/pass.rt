@@ -1,13 +1,23 @@
 //! The pass of edges: the loop that every job spends its time in.
 
-ghost use Rattle.std.specs.Prelude.{◌≡◌, ℕ, ◌<◌, length, slice_index, slice_set, All};
+ghost use Rattle.std.specs.Prelude.{◌≡◌, ℕ, ◌<◌, ◌≤◌, false, length, slice_index, slice_set, All};
+ghost use Rattle.gm_base.specs.declared.limits.TheConstants.{TOP};
 ghost use Rattle.gm_base.specs.Graph.{HasEndsBelow};
 ghost use Rattle.gm_kernel.specs.Runs.{gift_from, joined_at};
 
 use crate::Kernel;
-use gm_base::Edge;
+use gm_base::{Edge, TOP};
 
-/// Joins what one vertex gives over an edge of this weight into the sum of another.
+/// Whether joining this gift may change a sum. One that leaves the greatest sum as it is, as that of an unreached vertex does, leaves
+/// every sum as it is.
+#[inline(always)]
+fn may_change_a_sum<K: Kernel>(kernel: &K, gift: u64) -> bool
+    ensures { result ≡ false → (sum : ℕ) → sum ≤ TOP → (K.functions kernel.now).join_values sum gift ≡ sum }
+{
+    kernel.join(TOP, gift) != TOP
+}
+
+/// Joins what one vertex gives over an edge of this weight into the sum of another, which isn't looked at where that changes nothing.
 #[inline(always)]
 fn give_along<K: Kernel>(
     kernel: &K,
@@ -26,8 +36,10 @@ fn give_along<K: Kernel>(
         sums.new ≡ slice_set sums.old receiver ((K.functions kernel.now).join_values (slice_index sums.old receiver) gift) }
 {
     let gift = kernel.give(values[giver as usize], degrees[giver as usize], weight);
-    let at = receiver as usize;
-    sums[at] = kernel.join(sums[at], gift);
+    if may_change_a_sum(kernel, gift) {
+        let at = receiver as usize;
+        sums[at] = kernel.join(sums[at], gift);
+    }
 }
 
 /// Joins each edge's gift into the sum of its destination and, for a kernel that goes both ways, the gift of the destination's

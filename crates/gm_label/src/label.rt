@@ -101,13 +101,17 @@ pub(crate) fn label_by_sorting(
     requires { length edges.now ≤ MAX_EDGES }
     ensures { OnOk result (pairs.new.items ≡ label_of edges.now) }
 {
+    pairs.clear();
+    if let [edge] = edges {
+        pairs.push((edge.from, 1))?;
+        return Ok(());
+    }
     sources.clear();
     sources.reserve_exact(edges.len())?;
     for edge in edges {
         sources.push(edge.from)?;
     }
     sources.sort_unstable();
-    pairs.clear();
     push_runs(sources.as_slice(), pairs)
 }
 

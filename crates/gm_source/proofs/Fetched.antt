@@ -172,6 +172,9 @@ none_found told name bytes cat c kept stray (Stray index e) all same differs =
 none_found told name bytes cat c kept stray (Labels had has) all same differs =
     differs.3 (differs.1 ∙ sym same.label ∙ sym differs.2)
 
+pub none_is_some : {T : Type 0} (found : Option T) (x : T) → found ≡ None → found ≡ Some x → ⊥
+none_is_some found x none some = absurd cc
+
 -- a fault is told only of a call that failed
 pub fault_of : (trouble : Trouble) → Fault ≡ fetch_error_of trouble → trouble ≡ troubles.Failed
 fault_of troubles.Failed is = refl

@@ -1,5 +1,5 @@
 -- What fetching a chunk answers: its edges, or what was found in their place.
-use Rattle.std.specs.Prelude.{◌≡◌, ◌≢◌, ℕ, ◌+◌, ◌*◌, ◌<◌, Bool, not, List, length, slice_get, All, Option, Some, None, IfSome}
+use Rattle.std.specs.Prelude.{◌≡◌, ◌≢◌, ℕ, ◌+◌, ◌*◌, ◌<◌, Bool, not, List, length, slice_get, All, IsTrue, Option, Some, None, IfSome, Result, IfOk, IsErrOf}
 use Rattle.std.specs.List.{position}
 use Rattle.std.specs.FinMap.{get}
 use Rattle.gm_base.specs.declared.edge.Edge.{Edge}
@@ -7,17 +7,19 @@ use Rattle.gm_base.specs.Dimensions.{block_of}
 use Rattle.gm_base.specs.Graph.{HasEndsBelow}
 use Rattle.gm_outside.specs.declared.traits.Trouble.{Trouble}
 use Rattle.gm_outside.specs.declared.traits.Trouble.TheVariants as troubles
+use Rattle.gm_outside.specs.Causes.{counted_times, HasExactCause}
 use Rattle.gm_outside.specs.Files.{Files, HasBytesAt}
+use Rattle.gm_outside.specs.Frames.{DepotChange, OnlyReads}
 use Rattle.gm_grid.specs.Format.{is_in_block}
 use Rattle.gm_grid.specs.GridBytes.{edges_of_bytes, edges_in, index_end}
 use Rattle.gm_label.specs.declared.chunk.Raw.{Raw}
 use Rattle.gm_label.specs.Labels.{label_of}
 use Rattle.gm_label.specs.Catalogues.{Catalogue, place_at, label_at, base_at}
-use Rattle.gm_source.specs.Openings.{IsCatalogueOf, Decodes}
+use Rattle.gm_source.specs.Openings.{IsCatalogueOf, Decodes, chunk_reads}
 use Rattle.gm_source.specs.declared.fetching.Found.{Found}
 use Rattle.gm_source.specs.declared.fetching.Found.TheVariants.{Stray, Labels}
 use Rattle.gm_source.specs.declared.fetching.FetchError.{FetchError}
-use Rattle.gm_source.specs.declared.fetching.FetchError.TheVariants.{Fault, Memory}
+use Rattle.gm_source.specs.declared.fetching.FetchError.TheVariants.{Fault, Changed, Memory}
 
 abbrev pub fetch_error_of : Trouble → FetchError
 fetch_error_of troubles.Failed = Fault
@@ -82,3 +84,15 @@ pub record IsUnchanged (bytes : List ℕ) (cat : Catalogue) (c : ℕ) (kept : Li
   pub none : stray ≡ None
   pub base : kept ≡ base_at cat (edges_in bytes) c
   pub label : label_of kept ≡ label_at cat c
+
+-- a call that fetches a chunk, by the catalogue of the grid in the file of this name
+pub record Fetches (name : List ℕ) (cat : Catalogue) (c : ℕ) (depot : DepotChange) (result : Result Raw FetchError) : Type 0 where
+  pub ok : IfOk result (FitsCatalogue cat c)
+  pub from : IfOk result (λ raw. WasRead depot.files name cat c raw.edges)
+  pub told : (bytes : List ℕ) → TellsGrid depot.files name cat bytes → IfOk result (λ raw. raw.edges ≡ base_at cat (edges_in bytes) c)
+  pub changed : (found : Found) → IsErrOf result (Changed found) → WasFound depot.files name cat c found
+  pub unchanged : (bytes : List ℕ) (found : Found) → TellsGrid depot.files name cat bytes → IsErrOf result (Changed found) → ⊥
+  pub cause : HasExactCause Fault depot.faults depot.faults_now result
+  pub calm : (bytes : List ℕ) → IsTrue depot.calm → TellsGrid depot.files name cat bytes → IsErrOf result Fault → ⊥
+  pub read : (IsErrOf result Memory → ⊥) → depot.reads_now ≡ counted_times (chunk_reads (place_at cat c)) depot.reads
+  pub frame : OnlyReads (chunk_reads (place_at cat c)) depot

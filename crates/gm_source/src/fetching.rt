@@ -5,20 +5,21 @@ ghost use Rattle.gm_base.specs.declared.limits.TheConstants.{MAX_EDGES};
 ghost use Rattle.gm_outside.specs.Calls.{depot_change};
 ghost use Rattle.gm_outside.specs.Causes.{counted_times, HasExactCause};
 ghost use Rattle.gm_outside.specs.Frames.{OnlyReads};
-ghost use Rattle.gm_grid.specs.GridBytes.{index_end, edges_in};
+ghost use Rattle.gm_grid.specs.GridBytes.{index_end};
 ghost use Rattle.gm_label.specs.Labels.{label_of};
-ghost use Rattle.gm_label.specs.Catalogues.{place_at, label_at, base_at};
+ghost use Rattle.gm_label.specs.Catalogues.{place_at, label_at};
 ghost use Rattle.gm_source.specs.declared.fetching.FetchError.TheVariants as FetchErrors;
 ghost use Rattle.gm_source.specs.Openings.{chunk_reads};
-ghost use Rattle.gm_source.specs.Fetches.{TellsGrid, WasRead, WasFound, FitsCatalogue, LiesInChunk, Differs, ReadsChunk, IsUnchanged, fetch_error_of};
+ghost use Rattle.gm_source.specs.Fetches.{TellsGrid, Fetches, LiesInChunk, Differs, ReadsChunk, IsUnchanged, fetch_error_of};
 
-use crate::reading::{read_edges, zeros};
+use crate::reading::{read_edges, widen};
 use gm_base::{Edge, Edges, Memory, Shape};
 use gm_grid::laws::grid_reads_back;
 use gm_grid::{BlockRanges, index_size};
 use gm_label::{Catalogue, Label, Raw, SourceCounts};
 use gm_outside::{Depot, Trouble};
 use std::alloc::Global;
+use std::mem;
 
 /// What was found in place of a chunk's edges.
 #[derive(Drop)]
@@ -69,11 +70,11 @@ fn edge_start(shape: &Shape, index: u64) -> u64
 
 /// Reads a chunk's edges up to the first that isn't in its block, which is answered.
 fn read_chunk<D: Depot>(
-    alloc: Global,
     depot: &mut D,
     name: &str,
     cat: &Catalogue,
     chunk: u32,
+    buffer: &mut Vec<u8>,
     edges: &mut Vec<Edge>,
 ) -> Result<Option<Edge>, Trouble>
     requires { chunk < length cat.now.places }
@@ -89,11 +90,11 @@ fn read_chunk<D: Depot>(
 {
     grid_reads_back();
     let place = cat.chunk(chunk);
-    let mut buffer = zeros(alloc, 12 * place.length as usize)?;
-    edges.reserve_exact(place.length as usize)?;
+    let count = 12 * place.length as usize;
+    widen(buffer, count)?;
     let ranges = BlockRanges::of(cat.shape(), place.block);
     let start = edge_start(cat.shape(), place.first);
-    read_edges(depot, name, start, &ranges, &mut buffer, edges)
+    read_edges(depot, name, start, &ranges, &mut buffer[..count], edges)
 }
 
 /// Two labels of a chunk that differ: the catalogue's, and that of these edges.
@@ -111,7 +112,12 @@ fn two_labels(alloc: Global, cat: &Catalogue, chunk: u32, edges: &[Edge]) -> Res
 
 /// Whether these edges of a chunk's block have the label that the catalogue has of the chunk.
 #[tactic(auto, using(gm_label::specs::CataloguesRules::labelling))]
-fn has_label(alloc: Global, cat: &Catalogue, chunk: u32, edges: &[Edge]) -> Result<bool, Memory>
+fn has_label(
+    cat: &Catalogue,
+    chunk: u32,
+    edges: &[Edge],
+    counts: &mut SourceCounts,
+) -> Result<bool, Memory>
     requires within { chunk < length cat.now.places }
     requires few { length edges.now ≤ MAX_EDGES }
     requires placed { All (LiesInChunk cat.now chunk) edges.now }
@@ -121,13 +127,18 @@ fn has_label(alloc: Global, cat: &Catalogue, chunk: u32, edges: &[Edge]) -> Resu
     let _vertices = cat.shape().n();
     let block = cat.chunk(chunk).block;
     let (first, end) = (cat.first_source(block), cat.end_source(block));
-    let mut counts = SourceCounts::new(alloc);
     counts.count(first, end, edges)?;
     Ok(counts.matches(cat.label(chunk)))
 }
 
 /// Refuses edges of a chunk's block that have another label than the catalogue has of it.
-fn check_label(alloc: Global, cat: &Catalogue, chunk: u32, edges: &[Edge]) -> Result<(), FetchError>
+fn check_label(
+    alloc: Global,
+    cat: &Catalogue,
+    chunk: u32,
+    edges: &[Edge],
+    counts: &mut SourceCounts,
+) -> Result<(), FetchError>
     requires within { chunk < length cat.now.places }
     requires few { length edges.now ≤ MAX_EDGES }
     requires placed { All (LiesInChunk cat.now chunk) edges.now }
@@ -135,11 +146,64 @@ fn check_label(alloc: Global, cat: &Catalogue, chunk: u32, edges: &[Edge]) -> Re
     ensures changed { (found : Found) → IsErrOf result (FetchError.Changed found) → Differs cat.now chunk edges.now found }
     ensures no_fault { IsErrOf result FetchError.Fault → ⊥ }
 {
-    if has_label(alloc, cat, chunk, edges)? {
+    if has_label(cat, chunk, edges, counts)? {
         return Ok(());
     }
     let found = two_labels(alloc, cat, chunk, edges)?;
     Err(FetchError::Changed { found })
+}
+
+/// Fetches chunks one after the other, each in the room of the one before.
+#[derive(Drop)]
+pub struct Fetcher {
+    alloc: Global,
+    buffer: Vec<u8>,
+    edges: Vec<Edge>,
+    counts: SourceCounts,
+}
+
+impl Fetcher {
+    /// One that has no room yet.
+    pub fn new(alloc: Global) -> Fetcher {
+        Fetcher {
+            alloc,
+            buffer: Vec::new(alloc),
+            edges: Vec::new(alloc),
+            counts: SourceCounts::new(alloc),
+        }
+    }
+
+    /// The same as [`fetch`], in the room of the fetches before.
+    pub fn fetch<D: Depot>(
+        &mut self,
+        cat: &Catalogue,
+        chunk: u32,
+        depot: &mut D,
+        name: &str,
+    ) -> Result<Raw, FetchError>
+        requires { chunk < length cat.now.places }
+        ensures { Fetches name.now cat.now chunk (depot_change ⟦<D as Depot>⟧ depot.old depot.new) result }
+    {
+        let first = cat.chunk(chunk).first;
+        let (buffer, edges) = (&mut self.buffer, &mut self.edges);
+        if let Some(edge) = read_chunk(depot, name, cat, chunk, buffer, edges)? {
+            let index = first + self.edges.len() as u64;
+            let found = Found::Stray { index, edge };
+            return Err(FetchError::Changed { found });
+        }
+        let edges = self.edges.as_slice();
+        check_label(self.alloc, cat, chunk, edges, &mut self.counts)?;
+        let edges = mem::replace(&mut self.edges, Vec::new(self.alloc));
+        Ok(Raw {
+            chunk,
+            edges: Edges::from_vec(edges),
+        })
+    }
+
+    /// Takes a list of edges that isn't needed any more, as room for those of the next chunk.
+    pub fn give_back(&mut self, edges: Edges) {
+        self.edges = edges.into_vec();
+    }
 }
 
 /// Brings the edges of a chunk of the grid that this catalogue is of, by one read, or by none where it has none. `Changed` says what
@@ -152,31 +216,7 @@ pub fn fetch<D: Depot>(
     chunk: u32,
 ) -> Result<Raw, FetchError>
     requires { chunk < length cat.now.places }
-    ensures ok { IfOk result (λ raw. FitsCatalogue cat.now chunk raw) }
-    ensures from { IfOk result (λ raw. WasRead (D.files depot.old) name.now cat.now chunk raw.edges) }
-    ensures told { (bytes : List ℕ) → TellsGrid (D.files depot.old) name.now cat.now bytes
-        → IfOk result (λ raw. raw.edges ≡ base_at cat.now (edges_in bytes) chunk) }
-    ensures changed { (found : Found) → IsErrOf result (FetchError.Changed found)
-        → WasFound (D.files depot.old) name.now cat.now chunk found }
-    ensures unchanged { (bytes : List ℕ) (found : Found) → TellsGrid (D.files depot.old) name.now cat.now bytes
-        → IsErrOf result (FetchError.Changed found) → ⊥ }
-    ensures cause { HasExactCause FetchError.Fault (D.faults depot.old) (D.faults depot.new) result }
-    ensures calm { (bytes : List ℕ) → IsTrue (D.calm depot.old) → TellsGrid (D.files depot.old) name.now cat.now bytes
-        → IsErrOf result FetchError.Fault → ⊥ }
-    ensures read { (IsErrOf result FetchError.Memory → ⊥)
-        → D.reads depot.new ≡ counted_times (chunk_reads (place_at cat.now chunk)) (D.reads depot.old) }
-    ensures frame { OnlyReads (chunk_reads (place_at cat.now chunk)) (depot_change ⟦<D as Depot>⟧ depot.old depot.new) }
+    ensures { Fetches name.now cat.now chunk (depot_change ⟦<D as Depot>⟧ depot.old depot.new) result }
 {
-    let first = cat.chunk(chunk).first;
-    let mut edges = Vec::new(alloc);
-    if let Some(edge) = read_chunk(alloc, depot, name, cat, chunk, &mut edges)? {
-        let index = first + edges.len() as u64;
-        let found = Found::Stray { index, edge };
-        return Err(FetchError::Changed { found });
-    }
-    check_label(alloc, cat, chunk, edges.as_slice())?;
-    Ok(Raw {
-        chunk,
-        edges: Edges::from_vec(edges),
-    })
+    Fetcher::new(alloc).fetch(cat, chunk, depot, name)
 }

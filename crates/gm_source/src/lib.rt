@@ -11,6 +11,6 @@ mod reading;
 mod tests;
 
 pub use errors::OpenError;
-pub use fetching::{FetchError, Found, fetch};
+pub use fetching::{FetchError, Fetcher, Found, fetch};
 pub use gm_label::Raw;
 pub use opening::open_grid;

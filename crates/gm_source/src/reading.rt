@@ -1,6 +1,6 @@
 //! Reading the edges of a chunk.
 
-ghost use Rattle.std.specs.Prelude.{◌≡◌, ◌<◌, length, min, map, IsTrue, IsErrOf, IfSome, IfOk, OnOk, vec_len};
+ghost use Rattle.std.specs.Prelude.{◌≡◌, ◌<◌, ◌≤◌, length, min, map, IsTrue, IsErrOf, IfSome, IfOk, OnOk, vec_len};
 ghost use Rattle.gm_outside.specs.Calls.{depot_change};
 ghost use Rattle.gm_outside.specs.Causes.{counted_times, HasExactCause};
 ghost use Rattle.gm_outside.specs.Files.{HasRange, HasBytesAt};
@@ -89,4 +89,15 @@ pub(crate) fn zeros(alloc: Global, count: usize) -> Result<Vec<u8>, AllocError>
     ensures { IfOk result (λ zeros. vec_len zeros ≡ count) }
 {
     vec![in alloc; 0; count]
+}
+
+/// Makes a buffer wide enough for so many bytes.
+pub(crate) fn widen(buffer: &mut Vec<u8>, count: usize) -> Result<(), AllocError>
+    ensures { OnOk result (count ≤ vec_len buffer.new) }
+{
+    if buffer.len() < count {
+        buffer.reserve_exact(count - buffer.len())?;
+        buffer.resize(count, 0)?;
+    }
+    Ok(())
 }

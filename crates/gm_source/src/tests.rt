@@ -5,7 +5,7 @@ ghost use Rattle.gm_grid.specs.Format.{dimensions_of};
 ghost use Rattle.gm_label.specs.Chunks.{chunks_of};
 ghost use Rattle.gm_label.specs.Catalogues.{unlabelled};
 
-use crate::{FetchError, Found, OpenError, fetch, open_grid};
+use crate::{FetchError, Fetcher, Found, OpenError, fetch, open_grid};
 use gm_base::{Edge, Shape};
 use gm_fakes::{Call, DriftDepot, MemDepot};
 use gm_grid::GridError;
@@ -54,9 +54,9 @@ fn drifting_depot(alloc: Global, found: &[u8]) -> Result<DriftDepot, Fail> {
     Ok(DriftDepot::new(path_depot(alloc, &[])?, 1, bytes))
 }
 
-/// Whether the chunk is fetched with these edges.
+/// Whether the chunk is fetched with these edges. Their room is given back.
 fn fetches<D: Depot>(
-    alloc: Global,
+    fetcher: &mut Fetcher,
     depot: &mut D,
     cat: &Catalogue,
     chunk: u32,
@@ -65,8 +65,12 @@ fn fetches<D: Depot>(
     if chunk >= cat.chunks() {
         return false;
     }
-    match fetch(alloc, depot, "a.grid", cat, chunk) {
-        Ok(raw) => raw.chunk == chunk && raw.edges.as_slice() == edges,
+    match fetcher.fetch(cat, chunk, depot, "a.grid") {
+        Ok(raw) => {
+            let is_this = raw.chunk == chunk && raw.edges.as_slice() == edges;
+            fetcher.give_back(raw.edges);
+            is_this
+        }
         Err(_) => false,
     }
 }
@@ -76,11 +80,12 @@ fn each_chunk_by_one_read(rt: HostRuntime) -> Result<(), Fail> {
     let alloc = rt.alloc();
     let cat = path_catalogue(alloc)?;
     let mut depot = path_depot(alloc, &[])?;
-    assert!(rt; fetches(alloc, &mut depot, &cat, 3, &[edge(2, 3, 1)]));
-    assert!(rt; fetches(alloc, &mut depot, &cat, 2, &[]));
+    let mut fetcher = Fetcher::new(alloc);
+    assert!(rt; fetches(&mut fetcher, &mut depot, &cat, 3, &[edge(2, 3, 1)]));
+    assert!(rt; fetches(&mut fetcher, &mut depot, &cat, 2, &[]));
     let second = [edge(1, 2, 1), edge(0, 2, 5)];
-    assert!(rt; fetches(alloc, &mut depot, &cat, 1, &second));
-    assert!(rt; fetches(alloc, &mut depot, &cat, 0, &[edge(0, 1, 1)]));
+    assert!(rt; fetches(&mut fetcher, &mut depot, &cat, 1, &second));
+    assert!(rt; fetches(&mut fetcher, &mut depot, &cat, 0, &[edge(0, 1, 1)]));
     assert_eq!(rt; depot.reads(), 3);
     Ok(())
 }
@@ -91,10 +96,11 @@ fn edges_as_they_stand_now(rt: HostRuntime) -> Result<(), Fail> {
     let cat = path_catalogue(alloc)?;
     let heavier = b"\x01\0\0\0\x02\0\0\0\x09\0\0\0\0\0\0\0\x02\0\0\0\x05\0\0\0";
     let mut depot = drifting_depot(alloc, heavier)?;
+    let mut fetcher = Fetcher::new(alloc);
     let now = [edge(1, 2, 9), edge(0, 2, 5)];
-    assert!(rt; fetches(alloc, &mut depot, &cat, 1, &now));
+    assert!(rt; fetches(&mut fetcher, &mut depot, &cat, 1, &now));
     let before = [edge(1, 2, 1), edge(0, 2, 5)];
-    assert!(rt; fetches(alloc, &mut depot, &cat, 1, &before));
+    assert!(rt; fetches(&mut fetcher, &mut depot, &cat, 1, &before));
     Ok(())
 }
 
@@ -104,7 +110,8 @@ fn an_edge_of_another_block(rt: HostRuntime) -> Result<(), Fail> {
     let cat = path_catalogue(alloc)?;
     let moved = b"\x01\0\0\0\x02\0\0\0\x01\0\0\0\0\0\0\0\x01\0\0\0\x05\0\0\0";
     let mut depot = drifting_depot(alloc, moved)?;
-    match fetch(alloc, &mut depot, "a.grid", &cat, 1) {
+    let mut fetcher = Fetcher::new(alloc);
+    match fetcher.fetch(&cat, 1, &mut depot, "a.grid") {
         Err(
             FetchError::Changed {
                 found: Found::Stray { index, edge: stray },
@@ -115,6 +122,8 @@ fn an_edge_of_another_block(rt: HostRuntime) -> Result<(), Fail> {
         }
         _ => return Err("a stray edge".into()),
     }
+    let before = [edge(1, 2, 1), edge(0, 2, 5)];
+    assert!(rt; fetches(&mut fetcher, &mut depot, &cat, 1, &before));
     Ok(())
 }
 
@@ -143,13 +152,14 @@ fn a_read_that_fails(rt: HostRuntime) -> Result<(), Fail> {
     let alloc = rt.alloc();
     let cat = path_catalogue(alloc)?;
     let mut depot = path_depot(alloc, &[(Call::Read, 2)])?;
-    assert!(rt; fetches(alloc, &mut depot, &cat, 0, &[edge(0, 1, 1)]));
-    match fetch(alloc, &mut depot, "a.grid", &cat, 3) {
+    let mut fetcher = Fetcher::new(alloc);
+    assert!(rt; fetches(&mut fetcher, &mut depot, &cat, 0, &[edge(0, 1, 1)]));
+    match fetcher.fetch(&cat, 3, &mut depot, "a.grid") {
         Err(FetchError::Fault) => {}
         _ => return Err("a fault".into()),
     }
     assert_eq!(rt; depot.faults(), 1);
-    assert!(rt; fetches(alloc, &mut depot, &cat, 3, &[edge(2, 3, 1)]));
+    assert!(rt; fetches(&mut fetcher, &mut depot, &cat, 3, &[edge(2, 3, 1)]));
     assert_eq!(rt; depot.reads(), 3);
     Ok(())
 }
@@ -161,6 +171,7 @@ fn an_answer_may_be_sent(rt: HostRuntime) -> Result<(), Fail> {
     let cat = path_catalogue(rt.alloc())?;
     let mut depot = path_depot(rt.alloc(), &[])?;
     crosses_threads(fetch(rt.alloc(), &mut depot, "a.grid", &cat, 3));
+    crosses_threads(Fetcher::new(rt.alloc()));
     Ok(())
 }
 

@@ -16,8 +16,8 @@ returns c =
     let edges = c.args.edges.now in
     let whole : c.loop-edge.sources.items ≡ map (λ (e : Edge). e.from) edges =
     c.loop-edge.invariant ∙ ap (map (λ (e : Edge). e.from)) (take_all c.loop-edge.edge-index edges c.loop-edge-test.false) in
-    let same : c.clear-2.new.self.items ++ label_of_sources c.as_slice.result.now ≡ label_of edges =
-    ap (λ (ps : List (ℕ × ℕ)). ps ++ label_of_sources c.as_slice.result.now) c.clear-2.ensures.items
+    let same : c.clear.new.self.items ++ label_of_sources c.as_slice.result.now ≡ label_of edges =
+    ap (λ (ps : List (ℕ × ℕ)). ps ++ label_of_sources c.as_slice.result.now) c.clear.ensures.items
     ∙ ap label_of_sources c.as_slice.ensures.value
     ∙ sorted_label c.loop-edge.sources.items c.sort_unstable.new.self.items c.sort_unstable.ensures.permutation
     ∙ ap label_of_sources whole in

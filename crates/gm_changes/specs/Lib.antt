@@ -1,0 +1,10 @@
+pub mod Changes
+pub mod ChangesRules
+pub mod Concerns
+pub mod ConcernsRules
+pub mod JoinedRules
+pub mod Kept
+pub mod KeptRules
+pub mod LastCuts
+pub mod Sources
+pub mod Examples
