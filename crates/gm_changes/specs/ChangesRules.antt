@@ -1,7 +1,9 @@
 -- What proofs need of changes taken in order: changes in two parts, and how often an edge stands in a list after changes.
-use Rattle.std.proofs.Common.{◌≡◌, ℕ, zero, ◌+◌, Bool, true, false, cond, not, List, [], ◌∷◌, ◌++◌, inl, inr, sym, ap, ◌∙◌, refl, arith}
+use Rattle.std.proofs.Common.{◌≡◌, ℕ, zero, ◌+◌, ◌≤◌, length, Bool, true, false, cond, not, List, [], ◌∷◌, ◌++◌, inl, inr, sym, ap, ◌∙◌, refl, arith}
 use Rattle.std.specs.List.{filter}
 use Rattle.std.proofs.lemmas.Bool.{cases_Bool}
+use Rattle.std.proofs.lemmas.List.{length-append}
+use Rattle.std.proofs.lemmas.List.Filters.{length-filter_both}
 use Rattle.gm_base.specs.declared.edge.Edge.{Edge}
 use Rattle.gm_base.specs.Graph.{is_same_edge, IsSameGraph}
 use Rattle.gm_base.specs.GraphRules.{same_edge_is, count_of, count_of-cons, count_of-append}
@@ -102,5 +104,18 @@ count_after-add e (Cut from to ∷ changes) n m =
 pub same_after : (changes : List Change) (xs ys : List Edge) → IsSameGraph xs ys → IsSameGraph (edges_after changes xs) (edges_after changes ys)
 same_after changes xs ys equal e =
     count-edges_after e changes xs ∙ ap (count_after e changes) (equal e) ∙ sym (count-edges_after e changes ys)
+
+-- there are at most as many edges more as changes
+pub edges_after-few : (changes : List Change) (edges : List Edge) → length (edges_after changes edges) ≤ length edges + length changes
+edges_after-few [] edges = omega arith
+edges_after-few (Add e ∷ changes) edges =
+    let rest = edges_after-few changes (edges ++ e ∷ []) in
+    let one = length-append edges (e ∷ []) in
+    omega (arith, rest, one)
+edges_after-few (Cut from to ∷ changes) edges =
+    let p = λ (e : Edge). not (is_between from to e) in
+    let rest = edges_after-few changes (filter p edges) in
+    let both = length-filter_both p (λ (e : Edge). not (p e)) (λ x. refl) edges in
+    omega (arith, rest, both)
 
 pub ruleset changes_in_order = (edges-parts)

@@ -1,14 +1,13 @@
 -- A job under way: it begins so, each pass and each turn keeps it so, and at its end it has made all reads of its lone run.
-use Rattle.std.specs.Prelude.{◌≡◌, ℕ, ◌+◌, ◌≤◌, Bool, true, List, [], count_by, refl}
+use Rattle.std.specs.Prelude.{◌≡◌, ℕ, ◌+◌, ◌≤◌, Bool, true, List, count_by, refl}
 use Rattle.std.proofs.Common.{sym, ap, ◌∙◌, subst, arith}
 use Rattle.gm_base.specs.declared.edge.Edge.{Edge}
 use Rattle.gm_base.specs.declared.edge.Key.{Key}
 use Rattle.gm_base.specs.Graph.{IsSameGraph, is_same_edge}
 use Rattle.gm_grid.specs.GridBytes.{edges_in}
-use Rattle.gm_label.specs.declared.chunk.Overlay.{Overlay}
-use Rattle.gm_label.specs.Catalogues.{Catalogue, base_at}
+use Rattle.gm_label.specs.Catalogues.{Catalogue}
 use Rattle.gm_label.specs.Overlays.{key_at}
-use Rattle.gm_work.specs.Held.{Held, knows, known_of}
+use Rattle.gm_work.specs.Held.{Held, knows}
 use Rattle.gm_job_run.specs.declared.job_run.Stop.{Stop}
 use Rattle.gm_job_run.specs.declared.job_run.Stop.TheVariants.{Read, Changed, Memory}
 use Rattle.gm_kernel.specs.Runs.{most_rounds}
@@ -20,6 +19,7 @@ use Rattle.gm_work.specs.Entries.Turning.{Goes, Ends}
 use Rattle.gm_work.specs.Views.{JobView, IsCutIntoChunks, Standing, StandingTurn, IsMidRound, needed_in, owed_at, first_standing, with_passed, turn_at, IsTurnedWell}
 use Rattle.gm_work.specs.Views.StandingTurn.{StandsAt, EndsWith}
 use Rattle.gm_work.specs.Weights.{run_weight, weight_left, IsLeftBy}
+use Rattle.gm_job_run.specs.SeenViews.{Seen, chunk_seen}
 use Rattle.gm_job_run.specs.JobRuns.{IsNeeded, IsUnderWay, IsEnd, StopsBy, OfChunk, IsToldStop, pass_reads, view_over}
 
 -- the laws of gm_work, as its public functions state them
@@ -115,22 +115,20 @@ under_way-turns d reads_of first e reads cut turns weighs way =
     after_turning d reads_of first reads way.made (weight_left d reads_of way.st) (turn_at d way.st) (turned d.known e)
     (turns d way.st e cut way.mid) (weighs d reads_of way.st e way.mid) way.total way.counted
 
--- ---- a job as it is held, over a grid without changes
+-- ---- a job as it is held, over what it sees of a grid
 
-pub chunk_passed : (h after : Held) (bytes : List ℕ) (first c reads reads' : ℕ) (cat : Catalogue) (key : Key) (edges : List Edge) → Passes → OwedIs → WeightPasses
-    → h.overlays ≡ [] → cat ≡ h.catalogue → is_in h.entry.owed c ≡ true → key ≡ key_at h.overlays c
+-- a copy of a chunk that it owes has the edges that it sees of it
+pub chunk_passed : (h after : Held) (seen : Seen) (bytes : List ℕ) (first c reads reads' : ℕ) (cat : Catalogue) (key : Key) (edges : List Edge) → Passes → OwedIs → WeightPasses
+    → cat ≡ h.catalogue → is_in h.entry.owed c ≡ true → key ≡ key_at h.overlays c → key.chunk ≡ c
     → after ≡ record h { entry = passing (knows h) h.entry key.chunk edges }
-    → edges ≡ base_at cat (edges_in bytes) c → reads' ≡ counted_times (pass_reads cat c) reads
-    → IsUnderWay (view_over h bytes) (pass_reads h.catalogue) first h.entry reads
-    → IsUnderWay (view_over h bytes) (pass_reads h.catalogue) first after.entry reads'
-chunk_passed h after bytes first c reads reads' cat key edges passes owed_is weighs plain same_cat owes is_key is content read way =
-    let chunk : key.chunk ≡ c = ap (λ (k : Key). k.chunk) (is_key ∙ ap (λ (os : List Overlay). key_at os c) plain) in
-    let same : edges ≡ base_at h.catalogue (edges_in bytes) c = content ∙ ap (λ (known : Catalogue). base_at known (edges_in bytes) c) same_cat in
-    let next : after.entry ≡ passing (view_over h bytes).known h.entry c edges =
-    ap (λ (now : Held). now.entry) is
-    ∙ ap (λ (os : List Overlay). passing (known_of h.spec h.catalogue os) h.entry key.chunk edges) plain
-    ∙ ap (λ (n : ℕ). passing (known_of h.spec h.catalogue []) h.entry n edges) chunk in
-    under_way-passes (view_over h bytes) (pass_reads h.catalogue) first h.entry after.entry c reads reads' edges passes owed_is weighs owes
+    → edges ≡ chunk_seen cat (edges_in bytes) seen c → reads' ≡ counted_times (pass_reads cat c) reads
+    → IsUnderWay (view_over h seen bytes) (pass_reads h.catalogue) first h.entry reads
+    → IsUnderWay (view_over h seen bytes) (pass_reads h.catalogue) first after.entry reads'
+chunk_passed h after seen bytes first c reads reads' cat key edges passes owed_is weighs same_cat owes is_key chunk is content read way =
+    let same : edges ≡ chunk_seen h.catalogue (edges_in bytes) seen c = content ∙ ap (λ (known : Catalogue). chunk_seen known (edges_in bytes) seen c) same_cat in
+    let next : after.entry ≡ passing (knows h) h.entry c edges =
+    ap (λ (now : Held). now.entry) is ∙ ap (λ (n : ℕ). passing (knows h) h.entry n edges) chunk in
+    under_way-passes (view_over h seen bytes) (pass_reads h.catalogue) first h.entry after.entry c reads reads' edges passes owed_is weighs owes
     (λ e. ap (λ (es : List Edge). count_by (is_same_edge e) es) same) next
     (read ∙ ap (λ (known : Catalogue). counted_times (pass_reads known c) reads) same_cat) way
 

@@ -1,13 +1,11 @@
 -- Jobs that are run one after the other.
-use Rattle.std.specs.Prelude.{◌≡◌, ℕ, suc, ◌+◌, ◌≤◌, Bool, List, [], ◌∷◌, ◌++◌, All, Option, refl}
+use Rattle.std.specs.Prelude.{◌≡◌, ℕ, suc, ◌+◌, ◌≤◌, Bool, List, [], ◌∷◌, ◌++◌, Option, refl}
 use Rattle.std.proofs.Common.{inl, inr, sym, ap, ◌∙◌, subst, arith, append-nil, append_assoc}
-use Rattle.std.proofs.lemmas.List.Elements.{All-tail}
 use Rattle.std.proofs.lemmas.List.Sums.{sum_by-append}
 use Rattle.gm_base.specs.declared.edge.Edge.{Edge}
 use Rattle.gm_base.specs.declared.job.JobLine.{JobLine}
 use Rattle.gm_base.specs.declared.job.Outcome.{Outcome}
 use Rattle.gm_base.specs.declared.job.Outcome.TheVariants.{Done, Rounds, Read, Changed, Memory}
-use Rattle.gm_base.specs.declared.job.Spec.{Spec}
 use Rattle.gm_outside.specs.declared.traits.Depot as Depot
 use Rattle.gm_outside.specs.Calls.{depot_change}
 use Rattle.gm_outside.specs.Causes.{counted_times}
@@ -18,16 +16,14 @@ use Rattle.gm_outside.specs.FramesRules.{only_reads-none, only_reads-then}
 use Rattle.gm_grid.specs.GridBytes.{edges_in}
 use Rattle.gm_label.specs.Catalogues.{Catalogue}
 use Rattle.gm_source.specs.Fetches.{TellsGrid}
-use Rattle.gm_jobs.specs.declared.job.Job.{Job}
-use Rattle.gm_kernel.specs.Runs.{most_rounds}
-use Rattle.gm_work.specs.Held.{grid_view}
+use Rattle.gm_jobs.specs.StatedJobs.{StatedJob}
 use Rattle.gm_work.specs.Weights.{run_weight}
 use Rattle.gm_job_run.specs.JobRuns.{JobEnds, FaultsFor, ReadsSome, pass_reads}
-use Rattle.gm_job_run.specs.JobLines.{line_of_job, AreLinesOfJobs, IsTold, RunOver, FaultsOf, EndsOver, failed_reads, runs_weight}
+use Rattle.gm_job_run.specs.JobLines.{line_of_job, AreLinesOfJobs, IsTold, RunOver, FaultsOf, EndsOver, failed_reads, runs_weight, view_of_job}
 
 -- one job more, with its line
-one_more : (Ends : Spec → Outcome → Type 0) (jobs : List Job) (lines : List JobLine) (job : Job) (line : JobLine) → AreLinesOfJobs Ends jobs lines
-    → line ≡ line_of_job job line.outcome → Ends job.spec line.outcome → AreLinesOfJobs Ends (jobs ++ job ∷ []) (lines ++ line ∷ [])
+one_more : (Ends : StatedJob → Outcome → Type 0) (jobs : List StatedJob) (lines : List JobLine) (job : StatedJob) (line : JobLine) → AreLinesOfJobs Ends jobs lines
+    → line ≡ line_of_job job line.outcome → Ends job line.outcome → AreLinesOfJobs Ends (jobs ++ job ∷ []) (lines ++ line ∷ [])
 one_more Ends [] [] job line are is ends = (is, ends, tt)
 one_more Ends [] (other ∷ lines) job line are is ends = absurd are
 one_more Ends (other ∷ jobs) [] job line are is ends = absurd are
@@ -83,23 +79,21 @@ faults_push lines line first before now sofar next =
     by_outcome Memory is next = absurd next
 
 -- the depot after some of the jobs, whose lines these are
-pub record RunSoFar {D : Type 0} (g : Depot.Ghosts D) (old now : D) (name : List ℕ) (cat : Catalogue) (jobs rest : List Job) (lines : List JobLine) : Type 0 where
-  pub done : List Job
+pub record RunSoFar {D : Type 0} (g : Depot.Ghosts D) (old now : D) (name : List ℕ) (cat : Catalogue) (jobs rest : List StatedJob) (lines : List JobLine) : Type 0 where
+  pub done : List StatedJob
   pub split : jobs ≡ done ++ rest
-  pub some : All (λ (job : Job). 1 ≤ most_rounds job.spec) rest
-  pub told : AreLinesOfJobs (λ spec outcome. IsTold outcome) done lines
+  pub told : AreLinesOfJobs (λ job outcome. IsTold outcome) done lines
   pub frame : ReadsSome (depot_change g old now)
   pub faults : FaultsOf lines (g.faults old) (g.faults now)
   pub over : (bytes : List ℕ) → TellsGrid (g.files old) name cat bytes
       → RunOver cat (edges_in bytes) (depot_change g old now) done lines × (g.reads now ≤ g.reads old + runs_weight cat (edges_in bytes) done)
 
-pub none_yet : {D : Type 0} (g : Depot.Ghosts D) (depot : D) (name : List ℕ) (cat : Catalogue) (jobs rest : List Job) (lines : List JobLine) → rest ≡ jobs → lines ≡ []
-    → All (λ (job : Job). 1 ≤ most_rounds job.spec) jobs → RunSoFar g depot depot name cat jobs rest lines
-none_yet g depot name cat jobs rest lines all none some = record {
+pub none_yet : {D : Type 0} (g : Depot.Ghosts D) (depot : D) (name : List ℕ) (cat : Catalogue) (jobs rest : List StatedJob) (lines : List JobLine) → rest ≡ jobs → lines ≡ []
+    → RunSoFar g depot depot name cat jobs rest lines
+none_yet g depot name cat jobs rest lines all none = record {
   done = [];
   split = sym all;
-  some = subst (All (λ (job : Job). 1 ≤ most_rounds job.spec)) (sym all) some;
-  told = subst (AreLinesOfJobs (λ spec outcome. IsTold outcome) []) (sym none) tt;
+  told = subst (AreLinesOfJobs (λ job outcome. IsTold outcome) []) (sym none) tt;
   frame = (0, only_reads-none g depot);
   faults = subst (λ (lines : List JobLine). FaultsOf lines (g.faults depot) (g.faults depot)) (sym none) (record { misses = omega arith; served = λ _. refl });
   over = λ bytes tells. (
@@ -116,33 +110,33 @@ tells_still : {D : Type 0} (g : Depot.Ghosts D) (old now : D) (name : List ℕ) 
     → TellsGrid (g.files old) name cat bytes → TellsGrid (g.files now) name cat bytes
 tells_still g old now name cat bytes same tells = subst (λ (files : Option Files). TellsGrid files name cat bytes) (sym same) tells
 
-weight_push : (cat : Catalogue) (edges : List Edge) (jobs : List Job) (job : Job)
-    → runs_weight cat edges (jobs ++ job ∷ []) ≡ runs_weight cat edges jobs + run_weight (grid_view job.spec cat edges) (pass_reads cat)
+weight_push : (cat : Catalogue) (edges : List Edge) (jobs : List StatedJob) (job : StatedJob)
+    → runs_weight cat edges (jobs ++ job ∷ []) ≡ runs_weight cat edges jobs + run_weight (view_of_job cat edges job) (pass_reads cat)
 weight_push cat edges jobs job =
-    let both = sum_by-append (λ (j : Job). run_weight (grid_view j.spec cat edges) (pass_reads cat)) jobs (job ∷ []) in
+    let both = sum_by-append (λ (j : StatedJob). run_weight (view_of_job cat edges j) (pass_reads cat)) jobs (job ∷ []) in
     omega (arith, both)
 
 -- the jobs that were run take no more than all
-pub weight_front : (cat : Catalogue) (edges : List Edge) (jobs done rest : List Job) → jobs ≡ done ++ rest → runs_weight cat edges done ≤ runs_weight cat edges jobs
+pub weight_front : (cat : Catalogue) (edges : List Edge) (jobs done rest : List StatedJob) → jobs ≡ done ++ rest → runs_weight cat edges done ≤ runs_weight cat edges jobs
 weight_front cat edges jobs done rest split =
-    let both = sum_by-append (λ (j : Job). run_weight (grid_view j.spec cat edges) (pass_reads cat)) done rest in
+    let both = sum_by-append (λ (j : StatedJob). run_weight (view_of_job cat edges j) (pass_reads cat)) done rest in
     let all = ap (runs_weight cat edges) split in
     omega (arith, both, all)
 
-ends_over : (cat : Catalogue) (edges : List Edge) (spec : Spec) (depot : DepotChange) (calm : Bool) (outcome : Outcome) → depot.calm ≡ calm
-    → JobEnds (grid_view spec cat edges) (pass_reads cat) depot outcome → EndsOver cat edges calm spec outcome
-ends_over cat edges spec depot calm outcome same (inl alone) = inl alone.0
-ends_over cat edges spec depot calm outcome same (inr fails) =
+ends_over : (cat : Catalogue) (edges : List Edge) (job : StatedJob) (depot : DepotChange) (calm : Bool) (outcome : Outcome) → depot.calm ≡ calm
+    → JobEnds (view_of_job cat edges job) (pass_reads cat) depot outcome → EndsOver cat edges calm job outcome
+ends_over cat edges job depot calm outcome same (inl alone) = inl alone.0
+ends_over cat edges job depot calm outcome same (inr fails) =
     inr (record { chunk = fails.chunk; is = fails.is; needed = fails.needed; not_calm = λ calm. fails.not_calm (same ∙ calm) })
 
 -- without a failed read one job more took exactly its reads more
-reads_push : (cat : Catalogue) (edges : List Edge) (depot next all : DepotChange) (jobs : List Job) (lines : List JobLine) (job : Job) (line : JobLine)
+reads_push : (cat : Catalogue) (edges : List Edge) (depot next all : DepotChange) (jobs : List StatedJob) (lines : List JobLine) (job : StatedJob) (line : JobLine)
     → next.reads ≡ depot.reads_now → all.reads ≡ depot.reads → all.reads_now ≡ next.reads_now
     → (failed_reads lines ≡ 0 → depot.reads_now ≡ counted_times (runs_weight cat edges jobs) depot.reads)
-    → JobEnds (grid_view job.spec cat edges) (pass_reads cat) next line.outcome
+    → JobEnds (view_of_job cat edges job) (pass_reads cat) next line.outcome
     → failed_reads (lines ++ line ∷ []) ≡ 0 → all.reads_now ≡ counted_times (runs_weight cat edges (jobs ++ job ∷ [])) all.reads
 reads_push cat edges depot next all jobs lines job line from first last sofar (inl alone) none =
-    let weight = run_weight (grid_view job.spec cat edges) (pass_reads cat) in
+    let weight = run_weight (view_of_job cat edges job) (pass_reads cat) in
     let pushed = failed_reads-push lines line in
     let before = sofar (omega (arith, pushed, none)) in
     last ∙ alone.1 ∙ ap (counted_times weight) (from ∙ before)
@@ -154,27 +148,34 @@ reads_push cat edges depot next all jobs lines job line from first last sofar (i
     absurd (omega (arith, pushed, none))
 
 -- what a job's run reads is told of the one catalogue that is shared
-pub few_for : {D : Type 0} (g : Depot.Ghosts D) (before now : D) (name : List ℕ) (spec : Spec) (shared cat : Catalogue) → shared ≡ cat
+pub few_for : {D : Type 0} (g : Depot.Ghosts D) (before now : D) (name : List ℕ) (job : StatedJob) (shared cat : Catalogue) → shared ≡ cat
     → ((bytes : List ℕ) → TellsGrid (g.files before) name shared bytes
-    → g.reads now ≤ g.reads before + run_weight (grid_view spec shared (edges_in bytes)) (pass_reads shared))
-    → (bytes : List ℕ) → TellsGrid (g.files before) name cat bytes → g.reads now ≤ g.reads before + run_weight (grid_view spec cat (edges_in bytes)) (pass_reads cat)
-few_for g before now name spec shared cat same few =
+    → g.reads now ≤ g.reads before + run_weight (view_of_job shared (edges_in bytes) job) (pass_reads shared))
+    → (bytes : List ℕ) → TellsGrid (g.files before) name cat bytes → g.reads now ≤ g.reads before + run_weight (view_of_job cat (edges_in bytes) job) (pass_reads cat)
+few_for g before now name job shared cat same few =
     subst (λ (c : Catalogue). (bytes : List ℕ) → TellsGrid (g.files before) name c bytes
-    → g.reads now ≤ g.reads before + run_weight (grid_view spec c (edges_in bytes)) (pass_reads c)) same few
+    → g.reads now ≤ g.reads before + run_weight (view_of_job c (edges_in bytes) job) (pass_reads c)) same few
+
+-- .. and how the run ends
+pub ends_for : {D : Type 0} (g : Depot.Ghosts D) (before now : D) (name : List ℕ) (job : StatedJob) (outcome : Outcome) (shared cat : Catalogue) → shared ≡ cat
+    → ((bytes : List ℕ) → TellsGrid (g.files before) name shared bytes → JobEnds (view_of_job shared (edges_in bytes) job) (pass_reads shared) (depot_change g before now) outcome)
+    → (bytes : List ℕ) → TellsGrid (g.files before) name cat bytes → JobEnds (view_of_job cat (edges_in bytes) job) (pass_reads cat) (depot_change g before now) outcome
+ends_for g before now name job outcome shared cat same ends =
+    subst (λ (c : Catalogue). (bytes : List ℕ) → TellsGrid (g.files before) name c bytes
+    → JobEnds (view_of_job c (edges_in bytes) job) (pass_reads c) (depot_change g before now) outcome) same ends
 
 -- one job more was run
-pub one_run : {D : Type 0} (g : Depot.Ghosts D) (old mid new : D) (name : List ℕ) (cat : Catalogue) (jobs rest more : List Job) (lines : List JobLine) (job : Job) (line : JobLine)
+pub one_run : {D : Type 0} (g : Depot.Ghosts D) (old mid new : D) (name : List ℕ) (cat : Catalogue) (jobs rest more : List StatedJob) (lines : List JobLine) (job : StatedJob) (line : JobLine)
     → RunSoFar g old mid name cat jobs rest lines → rest ≡ job ∷ more
     → line ≡ line_of_job job line.outcome
-    → ((bytes : List ℕ) → TellsGrid (g.files mid) name cat bytes → JobEnds (grid_view job.spec cat (edges_in bytes)) (pass_reads cat) (depot_change g mid new) line.outcome)
-    → ((bytes : List ℕ) → TellsGrid (g.files mid) name cat bytes → g.reads new ≤ g.reads mid + run_weight (grid_view job.spec cat (edges_in bytes)) (pass_reads cat))
+    → ((bytes : List ℕ) → TellsGrid (g.files mid) name cat bytes → JobEnds (view_of_job cat (edges_in bytes) job) (pass_reads cat) (depot_change g mid new) line.outcome)
+    → ((bytes : List ℕ) → TellsGrid (g.files mid) name cat bytes → g.reads new ≤ g.reads mid + run_weight (view_of_job cat (edges_in bytes) job) (pass_reads cat))
     → FaultsFor (g.faults mid) (g.faults new) line.outcome → ReadsSome (depot_change g mid new)
     → RunSoFar g old new name cat jobs more (lines ++ line ∷ [])
 one_run g old mid new name cat jobs rest more lines job line sofar first is ends few faults frame = record {
   done = sofar.done ++ job ∷ [];
-  split = sofar.split ∙ ap (λ (r : List Job). sofar.done ++ r) first ∙ sym (append_assoc sofar.done (job ∷ []) more);
-  some = All-tail (λ (j : Job). 1 ≤ most_rounds j.spec) job more (subst (All (λ (j : Job). 1 ≤ most_rounds j.spec)) first sofar.some);
-  told = one_more (λ spec outcome. IsTold outcome) sofar.done lines job line sofar.told is (told_by_faults (g.faults mid) (g.faults new) line.outcome faults);
+  split = sofar.split ∙ ap (λ (r : List StatedJob). sofar.done ++ r) first ∙ sym (append_assoc sofar.done (job ∷ []) more);
+  told = one_more (λ job outcome. IsTold outcome) sofar.done lines job line sofar.told is (told_by_faults (g.faults mid) (g.faults new) line.outcome faults);
   frame = (sofar.frame.0 + frame.0, only_reads-then g old mid new sofar.frame.0 frame.0 sofar.frame.1 frame.1);
   faults = faults_push lines line (g.faults old) (g.faults mid) (g.faults new) sofar.faults faults;
   over = over;
@@ -192,14 +193,14 @@ one_run g old mid new name cat jobs rest more lines job line sofar first is ends
         let pushed = weight_push cat edges sofar.done job in (
           record {
             ended = one_more (EndsOver cat edges (g.calm old)) sofar.done lines job line before.0.ended is
-                (ends_over cat edges job.spec (depot_change g mid new) (g.calm old) line.outcome sofar.frame.1.calm_kept end);
+                (ends_over cat edges job (depot_change g mid new) (g.calm old) line.outcome sofar.frame.1.calm_kept end);
             reads = reads_push cat edges (depot_change g old mid) (depot_change g mid new) (depot_change g old new) sofar.done lines job line refl refl refl before.0.reads end;
           },
           omega (arith, most, most_before, pushed),
         )
 
 -- so far no more was read than by all
-pub few_sofar : {D : Type 0} (g : Depot.Ghosts D) (old now : D) (name : List ℕ) (cat : Catalogue) (jobs rest : List Job) (lines : List JobLine)
+pub few_sofar : {D : Type 0} (g : Depot.Ghosts D) (old now : D) (name : List ℕ) (cat : Catalogue) (jobs rest : List StatedJob) (lines : List JobLine)
     → RunSoFar g old now name cat jobs rest lines → (bytes : List ℕ) → TellsGrid (g.files old) name cat bytes
     → g.reads now ≤ g.reads old + runs_weight cat (edges_in bytes) jobs
 few_sofar g old now name cat jobs rest lines sofar bytes tells =
@@ -208,9 +209,9 @@ few_sofar g old now name cat jobs rest lines sofar bytes tells =
     omega (arith, most, front)
 
 -- nor with the next one, however it ended
-pub few_next : {D : Type 0} (g : Depot.Ghosts D) (old mid new : D) (name : List ℕ) (cat : Catalogue) (jobs rest more : List Job) (lines : List JobLine) (job : Job)
+pub few_next : {D : Type 0} (g : Depot.Ghosts D) (old mid new : D) (name : List ℕ) (cat : Catalogue) (jobs rest more : List StatedJob) (lines : List JobLine) (job : StatedJob)
     → RunSoFar g old mid name cat jobs rest lines → rest ≡ job ∷ more
-    → ((bytes : List ℕ) → TellsGrid (g.files mid) name cat bytes → g.reads new ≤ g.reads mid + run_weight (grid_view job.spec cat (edges_in bytes)) (pass_reads cat))
+    → ((bytes : List ℕ) → TellsGrid (g.files mid) name cat bytes → g.reads new ≤ g.reads mid + run_weight (view_of_job cat (edges_in bytes) job) (pass_reads cat))
     → (bytes : List ℕ) → TellsGrid (g.files old) name cat bytes → g.reads new ≤ g.reads old + runs_weight cat (edges_in bytes) jobs
 few_next g old mid new name cat jobs rest more lines job sofar first few bytes tells =
     let edges = edges_in bytes in
@@ -218,19 +219,19 @@ few_next g old mid new name cat jobs rest more lines job sofar first few bytes t
     let next = few bytes (tells_still g old mid name cat bytes sofar.frame.1.files_kept tells) in
     let pushed = weight_push cat edges sofar.done job in
     let front = weight_front cat edges jobs (sofar.done ++ job ∷ []) more
-    (sofar.split ∙ ap (λ (r : List Job). sofar.done ++ r) first ∙ sym (append_assoc sofar.done (job ∷ []) more)) in
+    (sofar.split ∙ ap (λ (r : List StatedJob). sofar.done ++ r) first ∙ sym (append_assoc sofar.done (job ∷ []) more)) in
     omega (arith, most, next, pushed, front)
 
 pub frame_next : {D : Type 0} (g : Depot.Ghosts D) (old mid new : D) → ReadsSome (depot_change g old mid) → ReadsSome (depot_change g mid new) → ReadsSome (depot_change g old new)
 frame_next g old mid new first second = (first.0 + second.0, only_reads-then g old mid new first.0 second.0 first.1 second.1)
 
 -- none is left
-pub all_done : {D : Type 0} (g : Depot.Ghosts D) (old now : D) (name : List ℕ) (cat : Catalogue) (jobs rest : List Job) (lines : List JobLine)
+pub all_done : {D : Type 0} (g : Depot.Ghosts D) (old now : D) (name : List ℕ) (cat : Catalogue) (jobs rest : List StatedJob) (lines : List JobLine)
     → RunSoFar g old now name cat jobs rest lines → rest ≡ []
-    → AreLinesOfJobs (λ spec outcome. IsTold outcome) jobs lines
+    → AreLinesOfJobs (λ job outcome. IsTold outcome) jobs lines
     × ((bytes : List ℕ) → TellsGrid (g.files old) name cat bytes → RunOver cat (edges_in bytes) (depot_change g old now) jobs lines)
 all_done g old now name cat jobs rest lines sofar none =
-    let all : sofar.done ≡ jobs = sym (sofar.split ∙ ap (λ (r : List Job). sofar.done ++ r) none ∙ append-nil sofar.done) in (
-      subst (λ (done : List Job). AreLinesOfJobs (λ spec outcome. IsTold outcome) done lines) all sofar.told,
-      λ bytes tells. subst (λ (done : List Job). RunOver cat (edges_in bytes) (depot_change g old now) done lines) all (sofar.over bytes tells).0,
+    let all : sofar.done ≡ jobs = sym (sofar.split ∙ ap (λ (r : List StatedJob). sofar.done ++ r) none ∙ append-nil sofar.done) in (
+      subst (λ (done : List StatedJob). AreLinesOfJobs (λ job outcome. IsTold outcome) done lines) all sofar.told,
+      λ bytes tells. subst (λ (done : List StatedJob). RunOver cat (edges_in bytes) (depot_change g old now) done lines) all (sofar.over bytes tells).0,
     )

@@ -1,5 +1,5 @@
 -- A job from its admission on.
-use Rattle.std.specs.Prelude.{◌≡◌, ℕ, ◌≤◌, List, [], Result, Ok, Err, IfOk}
+use Rattle.std.specs.Prelude.{◌≡◌, ℕ, ◌≤◌, List, Result, Ok, Err, IfOk}
 use Rattle.std.proofs.Common.{ap, ◌∙◌, subst}
 use Rattle.gm_base.specs.declared.job.Spec.{Spec}
 use Rattle.gm_outside.specs.declared.traits.Depot as Depot
@@ -10,7 +10,8 @@ use Rattle.gm_label.specs.Catalogues.{Catalogue}
 use Rattle.gm_source.specs.Fetches.{TellsGrid}
 use Rattle.gm_work.specs.Views.{JobView, first_standing}
 use Rattle.gm_work.specs.Weights.{run_weight, weight_left}
-use Rattle.gm_work.specs.Held.{Held, admitted, grid_view}
+use Rattle.gm_work.specs.Held.{Held, admitted}
+use Rattle.gm_job_run.specs.SeenViews.{Seen, overlays_seen, seen_view}
 use Rattle.gm_job_run.specs.JobRuns.{WhereUnderWay, pass_reads}
 use Rattle.gm_job_run.proofs.JobLemmas.{Begins, under_way-begins}
 
@@ -18,13 +19,13 @@ abbrev pub WeightBegins : Type 0
 WeightBegins = (d : JobView) (weight : ℕ → ℕ) → 1 ≤ most_rounds d.known.spec → weight_left d weight (first_standing d) ≡ run_weight d weight
 
 -- what holds after a call on a job that was just admitted, over a depot that tells the grid
-pub where-admitted : {D : Type 0} (g : Depot.Ghosts D) (depot : D) (name : List ℕ) (h : Held) (spec : Spec) (cat : Catalogue) (overlays : List Overlay) (bytes : List ℕ)
-    (Holds : JobView → (ℕ → ℕ) → ℕ → Type 0) → h ≡ admitted 0 spec cat overlays → overlays ≡ [] → 1 ≤ most_rounds spec → Begins → WeightBegins
-    → TellsGrid (g.files depot) name cat bytes → WhereUnderWay g depot name h Holds → Holds (grid_view spec cat (edges_in bytes)) (pass_reads cat) (g.reads depot)
-where-admitted g depot name h spec cat overlays bytes Holds is none some begins weighs told holds =
-    let plain : h ≡ admitted 0 spec cat [] = is ∙ ap (admitted 0 spec cat) none in
-    let d = grid_view spec cat (edges_in bytes) in
-    subst (λ (k : Held). WhereUnderWay g depot name k Holds) plain holds bytes (g.reads depot) told
+pub where-admitted : {D : Type 0} (g : Depot.Ghosts D) (depot : D) (name : List ℕ) (h : Held) (number : ℕ) (spec : Spec) (cat : Catalogue) (overlays : List Overlay) (seen : Seen) (bytes : List ℕ)
+    (Holds : JobView → (ℕ → ℕ) → ℕ → Type 0) → h ≡ admitted number spec cat overlays → overlays ≡ overlays_seen cat seen → 1 ≤ most_rounds spec → Begins → WeightBegins
+    → TellsGrid (g.files depot) name cat bytes → WhereUnderWay g depot name h seen Holds → Holds (seen_view spec cat (edges_in bytes) seen) (pass_reads cat) (g.reads depot)
+where-admitted g depot name h number spec cat overlays seen bytes Holds is sees some begins weighs told holds =
+    let seeing : h ≡ admitted number spec cat (overlays_seen cat seen) = is ∙ ap (admitted number spec cat) sees in
+    let d = seen_view spec cat (edges_in bytes) seen in
+    subst (λ (k : Held). WhereUnderWay g depot name k seen Holds) seeing holds bytes (g.reads depot) told
     (under_way-begins d (pass_reads cat) (g.reads depot) some begins (weighs d (pass_reads cat) some))
 
 pub ok_weaker : {X E : Type 0} (P Q : X → Type 0) (r : Result X E) → ((x : X) → P x → Q x) → IfOk r P → IfOk r Q

@@ -1,2 +1,3 @@
 pub mod JobRuns
 pub mod JobLines
+pub mod SeenViews

@@ -1,30 +1,31 @@
 //! One job over a depot's chunks.
 
-ghost use Rattle.std.specs.Prelude.{◌≡◌, ◌≤◌, ◌<◌, ◌+◌, ℕ, List, [], true, false, length, slice_set, All, IfOk, IfErr, OnOk, OnErr, Some, None, MatchResult, IsTrue, Err};
+ghost use Rattle.std.specs.Prelude.{◌≡◌, ◌≤◌, ◌<◌, ◌+◌, ℕ, List, true, false, length, slice_set, All, IfOk, IfErr, OnOk, OnErr, Some, None, MatchResult};
 ghost use Rattle.std.specs.Arc.{arc_value};
 ghost use Rattle.gm_base.specs.Graph.{HasEndsBelow};
-ghost use Rattle.gm_outside.specs.Causes.{counted_times, Rose};
+ghost use Rattle.gm_outside.specs.Causes.{counted_times};
 ghost use Rattle.gm_outside.specs.Calls.{depot_change};
 ghost use Rattle.gm_job_run.specs.JobRuns.{pass_reads, StaysUnderWay, TurnsFor, Carries, HasEnded, StopFaults, OfChunk, IsToldStop, ReadsSome, IsOfChunks, JobEnds, FaultsFor, outcome_of_stop, outcome_of_turn, stop_of};
 ghost use Rattle.gm_outside.specs.Frames.{OnlyReads};
 ghost use Rattle.gm_grid.specs.GridBytes.{edges_in};
+ghost use Rattle.gm_source.specs.Fetches.{TellsGrid, FitsCatalogue};
 ghost use Rattle.gm_label.specs.Catalogues.{base_at};
-ghost use Rattle.gm_source.specs.Fetches.{TellsGrid};
 ghost use Rattle.gm_kernel.specs.Runs.{most_rounds};
+ghost use Rattle.gm_job_run.specs.SeenViews.{IsSeenOver, IsViewOf, Sees, chunk_seen, overlays_seen, seen_in, seen_view};
 ghost use Rattle.gm_active.specs.Bits.{is_in};
+ghost use Rattle.gm_label.specs.Overlays.{key_at};
 ghost use Rattle.gm_work.specs.Entries.{owes_any};
-ghost use Rattle.gm_work.specs.Held.{grid_view};
 ghost use Rattle.gm_work.specs.Weights.{run_weight};
 
-use gm_base::{ChunkCopy, Edges, Memory, Outcome, Spec, Turned};
-use gm_label::{Catalogue, Overlays};
+use crate::laws::views_are_cut;
+use crate::view::View;
+use gm_base::{ChunkCopy, Key, Memory, Outcome, Spec, Turned};
+use gm_label::{Catalogue, Raw};
 use gm_outside::Depot;
 use gm_source::laws::catalogues_are_over_their_edges;
 use gm_source::{FetchError, Fetcher};
 use gm_work::Work;
-use gm_work::laws::{
-    begins, determined, grids_are_cut, owed_chunks, passes, turns, turns_end, weight_is_left,
-};
+use gm_work::laws::{begins, determined, owed_chunks, passes, turns, turns_end, weight_is_left};
 use std::alloc::Global;
 use std::sync::Arc;
 
@@ -50,53 +51,85 @@ fn stop_of(chunk: u32, error: FetchError) -> Stop
     }
 }
 
-/// The edges of a chunk, fetched for a job.
+/// The edges of a chunk, fetched.
 fn fetch_edges<D: Depot>(
     fetcher: &mut Fetcher,
     depot: &mut D,
     chunk: u32,
     name: &str,
     cat: &Catalogue,
-) -> Result<Edges, Stop>
+) -> Result<Raw, Stop>
     requires { chunk < length cat.now.places }
-    ensures ends { IfOk result (All (HasEndsBelow cat.now.dimensions.n)) }
+    ensures fits { IfOk result (FitsCatalogue cat.now chunk) }
     ensures told { (bytes : List ℕ) → TellsGrid (D.files depot.old) name.now cat.now bytes
-        → IfOk result (λ edges. edges ≡ base_at cat.now (edges_in bytes) chunk) }
+        → IfOk result (λ raw. raw.edges ≡ base_at cat.now (edges_in bytes) chunk) }
     ensures told_stop { (bytes : List ℕ) → TellsGrid (D.files depot.old) name.now cat.now bytes → IfErr result (IsToldStop (D.calm depot.old)) }
     ensures stop { IfErr result (OfChunk chunk) }
     ensures read { OnOk result (D.reads depot.new ≡ counted_times (pass_reads cat.now chunk) (D.reads depot.old)) }
-    ensures faults { MatchResult result (λ edges. D.faults depot.new ≡ D.faults depot.old) (StopFaults (D.faults depot.old) (D.faults depot.new)) }
+    ensures faults { MatchResult result (λ raw. D.faults depot.new ≡ D.faults depot.old) (StopFaults (D.faults depot.old) (D.faults depot.new)) }
     ensures frame { OnlyReads (pass_reads cat.now chunk) (depot_change ⟦<D as Depot>⟧ depot.old depot.new) }
 {
     match fetcher.fetch(cat, chunk, depot, name) {
-        Ok(raw) => Ok(raw.edges),
+        Ok(raw) => Ok(raw),
         Err(error) => Err(stop_of(chunk, error)),
+    }
+}
+
+/// The copy of a chunk that the job sees, fetched for its key.
+fn fetch_copy<D: Depot>(
+    alloc: Global,
+    fetcher: &mut Fetcher,
+    depot: &mut D,
+    view: &View<'_>,
+    cat: &Catalogue,
+    key: Key,
+) -> Result<ChunkCopy, Stop>
+    requires chunk { key.chunk < length cat.now.places }
+    requires view { IsViewOf cat.now view.now }
+    requires key { key ≡ key_at (overlays_seen cat.now (seen_in view.now)) key.chunk }
+    requires over { IsSeenOver cat.now.dimensions.n (seen_in view.now) }
+    ensures key { IfOk result (λ copy. copy.key ≡ key) }
+    ensures ends { IfOk result (λ copy. All (HasEndsBelow cat.now.dimensions.n) copy.edges) }
+    ensures told { (bytes : List ℕ) → TellsGrid (D.files depot.old) view.now.name.now cat.now bytes
+        → IfOk result (λ copy. copy.edges ≡ chunk_seen cat.now (edges_in bytes) (seen_in view.now) key.chunk) }
+    ensures told_stop { (bytes : List ℕ) → TellsGrid (D.files depot.old) view.now.name.now cat.now bytes → IfErr result (IsToldStop (D.calm depot.old)) }
+    ensures stop { IfErr result (OfChunk key.chunk) }
+    ensures read { OnOk result (D.reads depot.new ≡ counted_times (pass_reads cat.now key.chunk) (D.reads depot.old)) }
+    ensures faults { MatchResult result (λ copy. D.faults depot.new ≡ D.faults depot.old) (StopFaults (D.faults depot.old) (D.faults depot.new)) }
+    ensures frame { OnlyReads (pass_reads cat.now key.chunk) (depot_change ⟦<D as Depot>⟧ depot.old depot.new) }
+{
+    catalogues_are_over_their_edges();
+    let raw = fetch_edges(fetcher, depot, key.chunk, view.name, cat)?;
+    match view.versions.into_copy(alloc, cat, raw, key) {
+        Ok(copy) => Ok(copy),
+        Err(Memory) => Err(Stop::Memory),
     }
 }
 
 /// Fetches a chunk that the job owes, and passes it.
 fn pass_chunk<D: Depot>(
+    alloc: Global,
     fetcher: &mut Fetcher,
     depot: &mut D,
-    name: &str,
+    view: &View<'_>,
     work: &mut Work,
     chunk: u32,
 ) -> Result<(), Stop>
     requires within { chunk < length work.old.catalogue.places }
     requires owed { is_in work.old.entry.owed chunk ≡ true }
-    requires plain { work.old.overlays ≡ [] }
+    requires view { IsViewOf work.old.catalogue view.now }
+    requires sees { Sees work.old (seen_in view.now) }
     ensures phase { work.new.entry.phase ≡ work.old.entry.phase }
     ensures less { OnOk result (work.new.entry.owed ≡ slice_set work.old.entry.owed chunk false) }
-    ensures under_way { OnOk result (StaysUnderWay ⟦<D as Depot>⟧ depot.old depot.new name.now work.old work.new) }
-    ensures carries { Carries ⟦<D as Depot>⟧ depot.old depot.new name.now work.old work.new result }
+    ensures under_way { OnOk result (StaysUnderWay ⟦<D as Depot>⟧ depot.old depot.new view.now.name.now (seen_in view.now) work.old work.new) }
+    ensures carries { Carries ⟦<D as Depot>⟧ depot.old depot.new view.now.name.now (seen_in view.now) work.old work.new result }
 {
     passes();
     determined();
     owed_chunks();
     weight_is_left();
-    let edges = fetch_edges(fetcher, depot, chunk, name, work.catalogue())?;
     let key = work.key(chunk);
-    let copy = ChunkCopy { key, edges };
+    let copy = fetch_copy(alloc, fetcher, depot, view, work.catalogue(), key)?;
     work.pass(&copy);
     fetcher.give_back(copy.edges);
     Ok(())
@@ -104,21 +137,23 @@ fn pass_chunk<D: Depot>(
 
 /// Passes every chunk that the job owes in its phase, the least first.
 fn pass_owed<D: Depot>(
+    alloc: Global,
     fetcher: &mut Fetcher,
     depot: &mut D,
-    name: &str,
+    view: &View<'_>,
     work: &mut Work,
 ) -> Result<(), Stop>
-    requires { work.old.overlays ≡ [] }
+    requires view { IsViewOf work.old.catalogue view.now }
+    requires sees { Sees work.old (seen_in view.now) }
     ensures phase { work.new.entry.phase ≡ work.old.entry.phase }
     ensures none { OnOk result (owes_any work.new.entry.owed ≡ false) }
-    ensures under_way { OnOk result (StaysUnderWay ⟦<D as Depot>⟧ depot.old depot.new name.now work.old work.new) }
-    ensures carries { Carries ⟦<D as Depot>⟧ depot.old depot.new name.now work.old work.new result }
+    ensures under_way { OnOk result (StaysUnderWay ⟦<D as Depot>⟧ depot.old depot.new view.now.name.now (seen_in view.now) work.old work.new) }
+    ensures carries { Carries ⟦<D as Depot>⟧ depot.old depot.new view.now.name.now (seen_in view.now) work.old work.new result }
 {
     let chunks = work.catalogue().chunks();
     let mut from = 0;
     while let Some(chunk) = work.least_owed(from, chunks) {
-        pass_chunk(fetcher, depot, name, work, chunk)?;
+        pass_chunk(alloc, fetcher, depot, view, work, chunk)?;
         from = chunk + 1;
     }
     Ok(())
@@ -126,23 +161,25 @@ fn pass_owed<D: Depot>(
 
 /// Makes the phases of a job up to its end: each passes what the job owes, and turns it. The answer is the turn that ended it.
 fn make_phases<D: Depot>(
+    alloc: Global,
     fetcher: &mut Fetcher,
     depot: &mut D,
-    name: &str,
+    view: &View<'_>,
     work: &mut Work,
 ) -> Result<Turned, Stop>
-    requires { work.old.overlays ≡ [] }
+    requires view { IsViewOf work.old.catalogue view.now }
+    requires sees { Sees work.old (seen_in view.now) }
     ensures ended { IfOk result HasEnded }
-    ensures carries { Carries ⟦<D as Depot>⟧ depot.old depot.new name.now work.old work.new result }
-    ensures turned { IfOk result (TurnsFor ⟦<D as Depot>⟧ depot.old depot.new name.now work.old work.new) }
+    ensures carries { Carries ⟦<D as Depot>⟧ depot.old depot.new view.now.name.now (seen_in view.now) work.old work.new result }
+    ensures turned { IfOk result (TurnsFor ⟦<D as Depot>⟧ depot.old depot.new view.now.name.now (seen_in view.now) work.old work.new) }
 {
     turns();
     turns_end();
     weight_is_left();
-    grids_are_cut();
+    views_are_cut();
     catalogues_are_over_their_edges();
     loop {
-        pass_owed(fetcher, depot, name, work)?;
+        pass_owed(alloc, fetcher, depot, view, work)?;
         match work.turn() {
             Turned::Owes => {}
             ended => return Ok(ended),
@@ -184,28 +221,32 @@ fn outcome_of_turn(turned: Turned, work: Work) -> Outcome
     }
 }
 
-/// Runs a job over the chunks of a grid, each fetched where it is needed, up to the job's end or to the first chunk that can't be had.
-pub fn run_job<D: Depot>(
+/// Runs a job over the chunks of a grid with the updates above its line, each chunk fetched where it is needed and copied where an update
+/// concerns it, up to the job's end or to the first chunk that can't be had.
+pub(crate) fn run_job<D: Depot>(
     alloc: Global,
+    fetcher: &mut Fetcher,
     depot: &mut D,
-    name: &str,
+    view: &View<'_>,
     cat: Arc<Catalogue>,
     spec: Spec,
 ) -> Result<Outcome, Memory>
     requires some { 1 ≤ most_rounds spec }
-    ensures ends { (bytes : List ℕ) → TellsGrid (D.files depot.old) name.now (arc_value cat) bytes
-        → IfOk result (JobEnds (grid_view spec (arc_value cat) (edges_in bytes)) (pass_reads (arc_value cat))
+    requires view { IsViewOf (arc_value cat) view.now }
+    requires over { IsSeenOver (arc_value cat).dimensions.n (seen_in view.now) }
+    ensures ends { (bytes : List ℕ) → TellsGrid (D.files depot.old) view.now.name.now (arc_value cat) bytes
+        → IfOk result (JobEnds (seen_view spec (arc_value cat) (edges_in bytes) (seen_in view.now)) (pass_reads (arc_value cat))
         (depot_change ⟦<D as Depot>⟧ depot.old depot.new)) }
-    ensures few { (bytes : List ℕ) → TellsGrid (D.files depot.old) name.now (arc_value cat) bytes
-        → D.reads depot.new ≤ D.reads depot.old + run_weight (grid_view spec (arc_value cat) (edges_in bytes)) (pass_reads (arc_value cat)) }
+    ensures few { (bytes : List ℕ) → TellsGrid (D.files depot.old) view.now.name.now (arc_value cat) bytes
+        → D.reads depot.new ≤ D.reads depot.old + run_weight (seen_view spec (arc_value cat) (edges_in bytes) (seen_in view.now)) (pass_reads (arc_value cat)) }
     ensures faults { MatchResult result (FaultsFor (D.faults depot.old) (D.faults depot.new)) (λ _. D.faults depot.new ≡ D.faults depot.old) }
     ensures frame { ReadsSome (depot_change ⟦<D as Depot>⟧ depot.old depot.new) }
 {
     begins();
     weight_is_left();
-    let mut work = Work::admit(alloc, 0, spec, cat, Overlays::new(alloc))?;
-    let mut fetcher = Fetcher::new(alloc);
-    match make_phases(&mut fetcher, depot, name, &mut work) {
+    let overlays = view.versions.overlays(alloc, &cat, view.version)?;
+    let mut work = Work::admit(alloc, view.job, spec, cat, overlays)?;
+    match make_phases(alloc, fetcher, depot, view, &mut work) {
         Ok(turned) => Ok(outcome_of_turn(turned, work)),
         Err(stop) => outcome_of_stop(work.catalogue(), stop),
     }

@@ -1,9 +1,10 @@
-//! One job over a depot's chunks, until several are run in lockstep: the least owed chunk is fetched and passed, and where none is owed the
-//! job is turned.
+//! The jobs of a job text over a depot's chunks, until several are run in lockstep: one job after the other, the least owed chunk is fetched and
+//! passed, and where none is owed the job is turned.
 #![tactic(auto)]
 
 mod job_run;
-mod jobs_run;
+pub mod laws;
+mod script_run;
+mod view;
 
-pub use job_run::run_job;
-pub use jobs_run::run_jobs;
+pub use script_run::run_script;

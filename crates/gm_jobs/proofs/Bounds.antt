@@ -1,6 +1,7 @@
 -- What the words of a line say is within bounds: jobs make some round, and sources and the ends of changes are vertices.
-use Rattle.std.proofs.Common.{◌≡◌, ℕ, ◌<◌, ◌≤◌, Bool, true, false, List, [], ◌∷◌, Option, Some, None, Result, Ok, Err, refl, arith}
-use Rattle.std.specs.Prelude.{◌&&◌, nat_le, nat_lt, if◌then◌else◌, ok_or, codes, IfOk}
+use Rattle.std.proofs.Common.{◌≡◌, ℕ, ◌<◌, ◌≤◌, Bool, true, false, List, [], ◌∷◌, length, Option, Some, None, Result, Ok, Err, refl, subst, arith}
+use Rattle.std.specs.Prelude.{◌&&◌, nat_le, nat_lt, if◌then◌else◌, option_map, ok_or, codes, IfOk}
+use Rattle.std.specs.Result.{result_ok}
 use Rattle.std.specs.Str.{bytes_eq}
 use Rattle.std.proofs.lemmas.Bool.{and_parts, leb-true}
 use Rattle.std.proofs.lemmas.Bool.Decides.{nat_tests}
@@ -8,14 +9,16 @@ use Rattle.std.proofs.lemmas.List.Elements.{All-nil}
 use Rattle.gm_base.specs.declared.job.Spec.{Spec}
 use Rattle.gm_base.specs.declared.job.Spec.TheVariants.{Bfs, Sssp, Wcc, Rank}
 use Rattle.gm_base.specs.Graph.{edge}
-use Rattle.gm_text.specs.Texts.{number_in}
+use Rattle.gm_base.specs.Names.{is_name}
+use Rattle.gm_text.specs.Texts.{number_in, statements_of}
 use Rattle.gm_changes.specs.declared.change.Change.TheVariants.{Add, Cut}
 use Rattle.gm_jobs.specs.declared.jobs_error.Why.{Why}
 use Rattle.gm_jobs.specs.declared.jobs_error.Why.TheVariants.{UnknownWord, BadNumber}
-use Rattle.gm_jobs.specs.declared.limits.TheConstants.{MAX_ROUNDS, MAX_WEIGHT}
+use Rattle.gm_jobs.specs.declared.limits.TheConstants.{MAX_TEXT_BYTES, MAX_ROUNDS, MAX_WEIGHT}
 use Rattle.gm_jobs.specs.declared.script.Line.TheVariants as Lines
 use Rattle.gm_jobs.specs.LineWords.{result_map, result_and_then, where_fit, number_between, vertex_numbered, vertex_of, name_of, first_word, read_word, at_end, last_number, bound_in, search_in, spec_in, addition_in, cut_in, change_in}
-use Rattle.gm_jobs.specs.JobBounds.{MakesSomeRound, HasSourceBelow, IsChangeOver, IsLineOver}
+use Rattle.gm_jobs.specs.JobBounds.{MakesSomeRound, HasSourceBelow, IsLineOver}
+use Rattle.gm_changes.specs.Changes.{ChangesWithin}
 use Rattle.gm_jobs.specs.Scripts.{change_lines_in, job_in}
 
 -- a choice of two answers
@@ -101,23 +104,23 @@ a_spec n (kind ∷ more) =
     (either holds (bytes_eq kind (codes "wcc")) _ _ labels
     (either holds (bytes_eq kind (codes "rank")) (result_map Rank (last_number 1 MAX_ROUNDS more)) (Err UnknownWord) ranks tt)))
 
-pub an_addition : (n : ℕ) (words : List (List ℕ)) → IfOk (addition_in n words) (IsChangeOver n)
+pub an_addition : (n : ℕ) (words : List (List ℕ)) → IfOk (addition_in n words) (ChangesWithin n)
 an_addition n words =
-    read_on (λ v. v < n) (IsChangeOver n) (vertex_of n) _ words (a_vertex n)
-    (λ from more is. read_on (λ v. v < n) (IsChangeOver n) (vertex_of n) _ more (a_vertex n)
-    (λ to more is_to. read_on (λ weight. 0 ≤ weight) (IsChangeOver n) (number_between 0 MAX_WEIGHT) _ more (a_number 0 MAX_WEIGHT)
-    (λ weight more any. ended (IsChangeOver n) (Add (edge from to weight)) more (is, is_to))))
+    read_on (λ v. v < n) (ChangesWithin n) (vertex_of n) _ words (a_vertex n)
+    (λ from more is. read_on (λ v. v < n) (ChangesWithin n) (vertex_of n) _ more (a_vertex n)
+    (λ to more is_to. read_on (λ weight. 0 ≤ weight) (ChangesWithin n) (number_between 0 MAX_WEIGHT) _ more (a_number 0 MAX_WEIGHT)
+    (λ weight more any. ended (ChangesWithin n) (Add (edge from to weight)) more (is, is_to))))
 
-pub a_cut : (n : ℕ) (words : List (List ℕ)) → IfOk (cut_in n words) (IsChangeOver n)
+pub a_cut : (n : ℕ) (words : List (List ℕ)) → IfOk (cut_in n words) (ChangesWithin n)
 a_cut n words =
-    read_on (λ v. v < n) (IsChangeOver n) (vertex_of n) _ words (a_vertex n)
-    (λ from more is. read_on (λ v. v < n) (IsChangeOver n) (vertex_of n) _ more (a_vertex n)
-    (λ to more is_to. ended (IsChangeOver n) (Cut from to) more (is, is_to)))
+    read_on (λ v. v < n) (ChangesWithin n) (vertex_of n) _ words (a_vertex n)
+    (λ from more is. read_on (λ v. v < n) (ChangesWithin n) (vertex_of n) _ more (a_vertex n)
+    (λ to more is_to. ended (ChangesWithin n) (Cut from to) more (is, is_to)))
 
-pub a_change : (n : ℕ) (words : List (List ℕ)) → IfOk (change_in n words) (IsChangeOver n)
+pub a_change : (n : ℕ) (words : List (List ℕ)) → IfOk (change_in n words) (ChangesWithin n)
 a_change n [] = tt
 a_change n (word ∷ more) =
-    let holds = IsChangeOver n in
+    let holds = ChangesWithin n in
     either holds (bytes_eq word (codes "add")) _ _ (an_addition n more)
     (either holds (bytes_eq word (codes "del")) (cut_in n more) (Err UnknownWord) (a_cut n more) tt)
 
@@ -126,7 +129,7 @@ pub a_job : (n : ℕ) (taken words : List (List ℕ)) → IfOk (job_in n taken w
 a_job n taken words =
     read_on (λ _. Unit {0}) (λ entry. IsLineOver n entry × (change_lines_in entry ≡ 0)) (name_of taken) _ words (λ word. some_name (name_of taken word))
     (λ name more any. mapped (IsSpecOver n) (λ entry. IsLineOver n entry × (change_lines_in entry ≡ 0)) (λ spec. Lines.Job name spec []) (spec_in n more) (a_spec n more)
-    (λ spec is. ((is.0, is.1, All-nil (IsChangeOver n)), refl)))
+    (λ spec is. ((is.0, is.1, All-nil (ChangesWithin n)), refl)))
   where
     some_name : (found : Result (List ℕ) Why) → IfOk found (λ _. Unit {0})
     some_name (Ok name) = tt

@@ -1,5 +1,4 @@
 pub mod Bounds
-pub mod BuiltLists
 pub mod Entries
 pub mod ScriptBounds
 pub mod TakenNames

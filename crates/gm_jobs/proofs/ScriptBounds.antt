@@ -13,7 +13,8 @@ use Rattle.gm_jobs.specs.declared.keyword.Keyword.TheVariants as Keywords
 use Rattle.gm_jobs.specs.declared.limits.TheConstants.{MAX_TEXT_BYTES, MAX_JOBS, MAX_WAIT}
 use Rattle.gm_jobs.specs.declared.script.Line.{Line}
 use Rattle.gm_jobs.specs.declared.script.Line.TheVariants.{Job, Update, Wait}
-use Rattle.gm_jobs.specs.JobBounds.{IsChangeOver, IsLineOver, IsScriptOver}
+use Rattle.gm_jobs.specs.JobBounds.{IsLineOver, IsScriptOver}
+use Rattle.gm_changes.specs.Changes.{ChangesWithin}
 use Rattle.gm_jobs.specs.LineWords.{end_of, last_number, addition_in, cut_in, change_in}
 use Rattle.gm_jobs.specs.Readers.{takes_changes}
 use Rattle.gm_jobs.specs.Scripts.{names_of, change_lines_in, change_lines_of, ends_with, changed_by, with_change, with_entry, keyword_of, is_in_place, has_room, job_in, entries_with, at_line, entries_after_keyword, entries_after, entries_after_lines, script_of}
@@ -40,7 +41,7 @@ with_update : (n : ℕ) (above : List Line) → nat_lt (change_lines_of above) M
 with_update n above room below =
     let some : change_lines_of above < MAX_CHANGES = grind (arith, nat_tests) in
     record {
-      lines = All-push (IsLineOver n) above (Update []) below.lines (All-nil (IsChangeOver n));
+      lines = All-push (IsLineOver n) above (Update []) below.lines (All-nil (ChangesWithin n));
       jobs = omega (arith, ap length (names_with_update above []), below.jobs);
       changes = omega (arith, change_lines_with above (Update []));
     }
@@ -52,12 +53,12 @@ with_wait n above visits below = record {
   changes = omega (arith, change_lines_with above (Wait visits), below.changes);
 }
 
-changed_line : (n : ℕ) (change : Change) (entry : Line) → IsChangeOver n change → IsLineOver n entry → IsLineOver n (changed_by change entry)
-changed_line n change (Job name spec own) is below = (below.0, below.1, All-push (IsChangeOver n) own change below.2 is)
-changed_line n change (Update batch) is below = All-push (IsChangeOver n) batch change below is
+changed_line : (n : ℕ) (change : Change) (entry : Line) → ChangesWithin n change → IsLineOver n entry → IsLineOver n (changed_by change entry)
+changed_line n change (Job name spec own) is below = (below.0, below.1, All-push (ChangesWithin n) own change below.2 is)
+changed_line n change (Update batch) is below = All-push (ChangesWithin n) batch change below is
 changed_line n change (Wait visits) is below = tt
 
-changed_lines : (n : ℕ) (change : Change) (entries : List Line) → IsChangeOver n change → All (IsLineOver n) entries → All (IsLineOver n) (with_change entries change)
+changed_lines : (n : ℕ) (change : Change) (entries : List Line) → ChangesWithin n change → All (IsLineOver n) entries → All (IsLineOver n) (with_change entries change)
 changed_lines n change [] is below = below
 changed_lines n change (entry ∷ []) is below =
     All-cons (IsLineOver n) (changed_by change entry) [] (changed_line n change entry is (All-head (IsLineOver n) entry [] below)) (All-nil (IsLineOver n))
@@ -66,7 +67,7 @@ changed_lines n change (first ∷ next ∷ more) is below =
     (changed_lines n change (next ∷ more) is (All-tail (IsLineOver n) first (next ∷ more) below))
 
 with_changes : (n : ℕ) (above : List Line) → ends_with takes_changes above ≡ true → nat_lt (change_lines_of above) MAX_CHANGES ≡ true → IsScriptOver n above
-    → (change : Change) → IsChangeOver n change → IsScriptOver n (with_change above change)
+    → (change : Change) → ChangesWithin n change → IsScriptOver n (with_change above change)
 with_changes n above place room below change is =
     let some : change_lines_of above < MAX_CHANGES = grind (arith, nat_tests) in
     record {
@@ -91,11 +92,11 @@ after_words n above Keywords.Wait words place room below =
     mapped (λ _. Unit {0}) (IsScriptOver n) (λ visits. with_entry above (Wait visits)) (last_number 0 MAX_WAIT words) (any_answer (last_number 0 MAX_WAIT words))
     (λ visits any. with_wait n above visits below)
 after_words n above Keywords.Mutate words place room below =
-    mapped (IsChangeOver n) (IsScriptOver n) (with_change above) (change_in n words) (a_change n words) (with_changes n above (below_job above place) room below)
+    mapped (ChangesWithin n) (IsScriptOver n) (with_change above) (change_in n words) (a_change n words) (with_changes n above (below_job above place) room below)
 after_words n above Keywords.Add words place room below =
-    mapped (IsChangeOver n) (IsScriptOver n) (with_change above) (addition_in n words) (an_addition n words) (with_changes n above (below_update above place) room below)
+    mapped (ChangesWithin n) (IsScriptOver n) (with_change above) (addition_in n words) (an_addition n words) (with_changes n above (below_update above place) room below)
 after_words n above Keywords.Del words place room below =
-    mapped (IsChangeOver n) (IsScriptOver n) (with_change above) (cut_in n words) (a_cut n words) (with_changes n above (below_update above place) room below)
+    mapped (ChangesWithin n) (IsScriptOver n) (with_change above) (cut_in n words) (a_cut n words) (with_changes n above (below_update above place) room below)
 
 numbered : {A : Type 0} (P : A → Type 0) (number : ℕ) (x : Result A Why) → IfOk x P → IfOk (at_line number x) P
 numbered P number (Ok value) holds = holds

@@ -3,9 +3,7 @@ use Rattle.std.specs.Prelude.{ℕ, ◌<◌, ◌≤◌, List, length, All}
 use Rattle.gm_base.specs.declared.job.Spec.{Spec}
 use Rattle.gm_base.specs.declared.job.Spec.TheVariants.{Bfs, Sssp, Wcc, Rank}
 use Rattle.gm_base.specs.declared.limits.TheConstants.{MAX_CHANGES}
-use Rattle.gm_base.specs.Graph.{HasEndsBelow}
-use Rattle.gm_changes.specs.declared.change.Change.{Change}
-use Rattle.gm_changes.specs.declared.change.Change.TheVariants.{Add, Cut}
+use Rattle.gm_changes.specs.Changes.{ChangesWithin}
 use Rattle.gm_jobs.specs.declared.limits.TheConstants.{MAX_JOBS}
 use Rattle.gm_jobs.specs.declared.script.Line.{Line}
 use Rattle.gm_jobs.specs.declared.script.Line.TheVariants.{Job, Update, Wait}
@@ -25,15 +23,10 @@ HasSourceBelow n (Sssp source bound) = source < n
 HasSourceBelow n (Wcc bound) = Unit {0}
 HasSourceBelow n (Rank rounds) = Unit {0}
 
--- a change whose both ends are vertices
-abbrev pub IsChangeOver : ℕ → Change → Type 0
-IsChangeOver n (Add e) = HasEndsBelow n e
-IsChangeOver n (Cut from to) = (from < n) × (to < n)
-
 -- an entry of a script over n vertices
 abbrev pub IsLineOver : ℕ → Line → Type 0
-IsLineOver n (Job name spec own) = MakesSomeRound spec × HasSourceBelow n spec × All (IsChangeOver n) own
-IsLineOver n (Update batch) = All (IsChangeOver n) batch
+IsLineOver n (Job name spec own) = MakesSomeRound spec × HasSourceBelow n spec × All (ChangesWithin n) own
+IsLineOver n (Update batch) = All (ChangesWithin n) batch
 IsLineOver n (Wait visits) = Unit {0}
 
 -- each entry is one over n vertices, and there are not too many jobs and changes

@@ -1,4 +1,3 @@
-pub mod BuiltJobs
 pub mod Examples
 pub mod JobBounds
 pub mod JobsErrors
@@ -7,3 +6,4 @@ pub mod LineWords
 pub mod NameSets
 pub mod Readers
 pub mod Scripts
+pub mod StatedJobs

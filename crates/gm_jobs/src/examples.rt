@@ -4,6 +4,7 @@ ghost use Rattle.std.specs.Prelude.{◌≡◌, true, ◌∷◌, [], ◌++◌, Ok
 ghost use Rattle.gm_base.specs.Graph.{edge};
 ghost use Rattle.gm_jobs.specs.Examples.{AreRefused, AreTooMany};
 ghost use Rattle.gm_jobs.specs.Scripts.{script_of, has_room, entries_after};
+ghost use Rattle.gm_jobs.specs.StatedJobs.{jobs_of};
 
 use crate::keyword::Keyword;
 use crate::{JobsRefusal, Line, Why};
@@ -48,6 +49,15 @@ pub fn numbers_in_range()
     ensures greatest_bound { script_of 4 (codes "job a bfs 0 rounds 1000000") ≡ Ok (Line.Job (codes "a") (Spec.Bfs 0 1000000) [] ∷ []) }
     ensures greatest_rank { script_of 4 (codes "job a rank 1000000") ≡ Ok (Line.Job (codes "a") (Spec.Rank 1000000) [] ∷ []) }
     ensures greatest_weight { script_of 4 (codes "update\nadd 0 0 4294967295") ≡ Ok (Line.Update (Change.Add (edge 0 0 4294967295) ∷ []) ∷ []) }
+{}
+
+/// Each job has the updates above its line, and its own changes.
+pub fn jobs_below_updates()
+    ensures { jobs_of (Line.Job (codes "a") (Spec.Wcc 5) [] ∷ Line.Update (Change.Add (edge 0 3 1) ∷ []) ∷ Line.Wait 2
+        ∷ Line.Job (codes "b") (Spec.Rank 1) (Change.Cut 0 1 ∷ []) ∷ Line.Update [] ∷ Line.Job (codes "c") (Spec.Wcc 5) [] ∷ [])
+        ≡ record { number = 0; name = codes "a"; spec = Spec.Wcc 5; above = []; own = [] }
+        ∷ record { number = 1; name = codes "b"; spec = Spec.Rank 1; above = (Change.Add (edge 0 3 1) ∷ []) ∷ []; own = Change.Cut 0 1 ∷ [] }
+        ∷ record { number = 2; name = codes "c"; spec = Spec.Wcc 5; above = (Change.Add (edge 0 3 1) ∷ []) ∷ [] ∷ []; own = [] } ∷ [] }
 {}
 
 /// A first word that begins no line, and other words that may not stand where they do.

@@ -2,7 +2,6 @@
 #![tactic(auto)]
 
 pub mod examples;
-mod job;
 mod jobs_error;
 mod keyword;
 pub mod laws;
@@ -15,7 +14,6 @@ mod script_reader;
 #[cfg(test)]
 mod tests;
 
-pub use job::{Job, built_jobs};
 pub use jobs_error::{JobsError, JobsRefusal, Why};
 pub use limits::{MAX_JOBS, MAX_ROUNDS, MAX_TEXT_BYTES, MAX_WAIT, MAX_WEIGHT};
 pub use script::{Line, Script};

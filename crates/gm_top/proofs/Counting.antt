@@ -14,7 +14,7 @@ use Rattle.gm_source.specs.Openings.{opening_reads}
 use Rattle.gm_source.specs.Fetches.{TellsGrid}
 use Rattle.gm_job_run.specs.JobRuns.{ReadsSome}
 use Rattle.gm_job_run.specs.JobLines.{runs_weight}
-use Rattle.gm_jobs.specs.declared.job.Job.{Job}
+use Rattle.gm_jobs.specs.StatedJobs.{StatedJob}
 use Rattle.gm_commands.specs.declared.failure.Failure.{Failure}
 use Rattle.gm_commands.specs.declared.failure.Failure.TheVariants.{OutOfMemory}
 use Rattle.gm_commands.specs.Failures.{status_of}
@@ -39,7 +39,7 @@ reads_run-files command depot status frame few = record {
   refused_told = λ low high. few;
 }
 
-ran : (told : Option Files) (command : RunCommand) (depot : DepotChange) (mid : ℕ) (mid_told : Option Files) (cat : Catalogue) (jobs : List Job) → EdgesBack → mid_told ≡ told
+ran : (told : Option Files) (command : RunCommand) (depot : DepotChange) (mid : ℕ) (mid_told : Option Files) (cat : Catalogue) (jobs : List StatedJob) → EdgesBack → mid_told ≡ told
     → mid ≡ counted (counted_times (opening_reads cat.places) depot.reads)
     → IfSome told (λ held. HoldsRun command held cat jobs)
     → ((bytes : List ℕ) → TellsGrid mid_told command.grid cat bytes → depot.reads_now ≤ mid + runs_weight cat (edges_in bytes) jobs)
@@ -58,7 +58,7 @@ no_refusal status low high (inl less) = omega (arith, low, less)
 no_refusal status low high (inr more) = omega (arith, high, more)
 
 -- the job was run, and the report was written or not
-pub reads_run-ran : (command : RunCommand) (depot : DepotChange) (status mid : ℕ) (mid_told : Option Files) (cat : Catalogue) (jobs : List Job) → EdgesBack → mid_told ≡ depot.files
+pub reads_run-ran : (command : RunCommand) (depot : DepotChange) (status mid : ℕ) (mid_told : Option Files) (cat : Catalogue) (jobs : List StatedJob) → EdgesBack → mid_told ≡ depot.files
     → mid ≡ counted (counted_times (opening_reads cat.places) depot.reads)
     → IfSome depot.files (λ held. HoldsRun command held cat jobs)
     → ((bytes : List ℕ) → TellsGrid mid_told command.grid cat bytes → depot.reads_now ≤ mid + runs_weight cat (edges_in bytes) jobs)

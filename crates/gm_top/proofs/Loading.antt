@@ -1,7 +1,6 @@
 -- What follows from the files that a run loaded.
 use Rattle.std.specs.Prelude.{◌≡◌, ℕ, ◌+◌, ◌≤◌, List, Option, Some, None, IfSome, IsSomeAnd, Ok, Err, All, refl}
 use Rattle.std.specs.FinMap.{get}
-use Rattle.std.proofs.lemmas.List.Elements.{All-weaker}
 use Rattle.std.proofs.Common.{sym, ap, ◌∙◌, subst}
 use Rattle.gm_outside.specs.declared.traits.Depot as Depot
 use Rattle.gm_outside.specs.Calls.{depot_change}
@@ -11,11 +10,7 @@ use Rattle.gm_grid.specs.GridBytes.{shape_in}
 use Rattle.gm_base.specs.declared.edge.Edge.{Edge}
 use Rattle.gm_label.specs.Catalogues.{Catalogue}
 use Rattle.gm_source.specs.Openings.{IsTold, IsCatalogueOf}
-use Rattle.gm_base.specs.declared.job.Spec.{Spec}
-use Rattle.gm_base.specs.declared.job.Spec.TheVariants.{Bfs, Sssp, Wcc, Rank}
-use Rattle.gm_kernel.specs.Runs.{most_rounds}
-use Rattle.gm_jobs.specs.JobBounds.{MakesSomeRound}
-use Rattle.gm_jobs.specs.declared.job.Job.{Job}
+use Rattle.gm_jobs.specs.StatedJobs.{StatedJob}
 use Rattle.gm_words.specs.Commands.{RunCommand}
 use Rattle.gm_base.specs.declared.limits.TheConstants.{MAX_CHUNKS}
 use Rattle.gm_outside.specs.Frames.{DepotChange}
@@ -31,7 +26,7 @@ there None told = absurd told
 there (Some bytes) told = (bytes, refl, told)
 
 -- both files were loaded from the same ones
-pub holds_run : (told told' : Option Files) (command : RunCommand) (cat : Catalogue) (n : ℕ) (jobs : List Job) → told' ≡ told → n ≡ cat.dimensions.n
+pub holds_run : (told told' : Option Files) (command : RunCommand) (cat : Catalogue) (n : ℕ) (jobs : List StatedJob) → told' ≡ told → n ≡ cat.dimensions.n
     → IsTold told command.grid (λ bytes. IsCatalogueOf bytes command.chunk cat) → IfSome told' (λ held. TellsJobs held command.jobs n jobs)
     → IfSome told (λ held. HoldsRun command held cat jobs)
 holds_run None told' command cat n jobs same count grid tells = tt
@@ -99,13 +94,3 @@ not_loaded {X = X} {Y = Y} g old mid new command cat n failure shapes count grid
     let by_file = reads_files-same {T = X} g mid new 1 (jobs_reading command n) (jobs_reading_by_grid command).refusal (Err failure) (by_grid (g.files mid) command cat n shapes count told) second in
     reads_files-then g old mid new (2 + MAX_CHUNKS) 1 (grid_reading command.grid command.chunk) (jobs_reading_by_grid command) cat (Err failure) (apart command) first
     (reads-err {X = X} {Y = Y} 1 (jobs_reading_by_grid command) (depot_change g mid new) failure by_file)
-
--- each job makes some round
-some_round : (spec : Spec) → MakesSomeRound spec → 1 ≤ most_rounds spec
-some_round (Bfs source bound) some = some
-some_round (Sssp source bound) some = some
-some_round (Wcc bound) some = some
-some_round (Rank rounds) some = some
-
-pub some_rounds : (jobs : List Job) → All (λ (job : Job). MakesSomeRound job.spec) jobs → All (λ (job : Job). 1 ≤ most_rounds job.spec) jobs
-some_rounds jobs some = All-weaker (λ (job : Job). MakesSomeRound job.spec) (λ (job : Job). 1 ≤ most_rounds job.spec) (λ job. some_round job.spec) jobs some

@@ -1,5 +1,6 @@
 -- What follows from jobs that were run over the grid that was loaded.
-use Rattle.std.specs.Prelude.{◌≡◌, ℕ, suc, ◌+◌, ◌<◌, ◌≤◌, Bool, ◌⊎◌, List, [], ◌∷◌, Option, Some, None, IfSome, Result, Ok, Err, IfOk, refl}
+use Rattle.std.specs.Prelude.{◌≡◌, ℕ, suc, ◌+◌, ◌<◌, ◌≤◌, Bool, ◌⊎◌, List, [], ◌∷◌, Option, Some, None, IfSome, Result, Ok, Err, IfOk, All, refl}
+use Rattle.std.proofs.lemmas.List.Elements.{All-head, All-tail}
 use Rattle.std.proofs.Common.{Vec, Global, inl, inr, sym, ap, ◌∙◌, subst, arith}
 use Rattle.gm_base.specs.declared.edge.Edge.{Edge}
 use Rattle.gm_base.specs.declared.limits.TheConstants.{MAX_CHUNKS}
@@ -20,7 +21,9 @@ use Rattle.gm_label.specs.Catalogues.{Catalogue}
 use Rattle.gm_source.specs.Openings.{IsCatalogueOf, opening_reads}
 use Rattle.gm_source.specs.Fetches.{TellsGrid}
 use Rattle.gm_job_run.specs.JobLines.{line_of_job, AreLinesOfJobs, EndsOver, FaultsOf, IsTold, RunOver, failed_reads, runs_weight}
-use Rattle.gm_jobs.specs.declared.job.Job.{Job}
+use Rattle.gm_jobs.specs.declared.script.Line.{Line}
+use Rattle.gm_jobs.specs.StatedJobs.{StatedJob, jobs_of}
+use Rattle.gm_job_run.specs.SeenViews.{Seen, IsSeenOver, edges_seen, seen_by}
 use Rattle.gm_words.specs.Commands.{RunCommand}
 use Rattle.gm_commands.specs.declared.failure.Failure.{Failure}
 use Rattle.gm_commands.specs.Readings.{ReadsFiles}
@@ -34,6 +37,13 @@ EdgesBack = (bytes : List ℕ) (n parts : ℕ) (blocks : List (List Edge)) → I
 abbrev pub Settles : Type 0
 Settles = (spec : Spec) (n : ℕ) (edges : List Edge) (rounds : ℕ) → IsGraph n edges → 1 ≤ n → lone_run spec n edges ≡ Rounds rounds → (rounds ≡ most_rounds spec) × (most_rounds spec < n)
 
+-- the law of the graphs that jobs see
+abbrev pub Views : Type 0
+Views = (n : ℕ) (edges : List Edge) (seen : Seen) → IsGraph n edges → IsSeenOver n seen → IsGraph n (edges_seen edges seen)
+
+abbrev pub SeesVertices : ℕ → List StatedJob → Type 0
+SeesVertices n jobs = All (λ (job : StatedJob). IsSeenOver n (seen_by job)) jobs
+
 abbrev pub Graphs : Type 0
 Graphs = (bytes : List ℕ) (size : ℕ) (cat : Catalogue) → IsCatalogueOf bytes size cat → IsGraph cat.dimensions.n (edges_in bytes) × (1 ≤ cat.dimensions.n)
 
@@ -44,48 +54,51 @@ early spec n edges outcome settles graph some is bound at =
     let below = end.1 in
     omega (arith, most, below)
 
--- a job that ended over the grid's edges did so in time
-in_time : (cat : Catalogue) (edges : List Edge) (calm : Bool) → Settles → IsGraph cat.dimensions.n edges → 1 ≤ cat.dimensions.n
-    → (spec : Spec) (outcome : Outcome) → EndsOver cat edges calm spec outcome → EndsInTime cat edges calm spec outcome
-in_time cat edges calm settles graph some spec outcome (inl alone) = (inl alone, early spec cat.dimensions.n edges outcome settles graph some alone)
-in_time cat edges calm settles graph some spec outcome (inr fails) = (inr fails, λ bound at. absurd (let other = sym fails.is ∙ at in cc))
+-- a job that ended over what it sees of the grid's edges did so in time
+in_time : (cat : Catalogue) (edges : List Edge) (calm : Bool) → Settles → Views → IsGraph cat.dimensions.n edges → 1 ≤ cat.dimensions.n
+    → (job : StatedJob) (outcome : Outcome) → IsSeenOver cat.dimensions.n (seen_by job) → EndsOver cat edges calm job outcome → EndsInTime cat edges calm job outcome
+in_time cat edges calm settles views graph some job outcome seen (inl alone) = (
+  inl alone,
+  early job.spec cat.dimensions.n (edges_seen edges (seen_by job)) outcome settles (views cat.dimensions.n edges (seen_by job) graph seen) some alone,
+)
+in_time cat edges calm settles views graph some job outcome seen (inr fails) = (inr fails, λ bound at. absurd (let other = sym fails.is ∙ at in cc))
 
 -- the same lines, of whose jobs something else holds
-each_ends : (First Second : Spec → Outcome → Type 0) → ((spec : Spec) (outcome : Outcome) → First spec outcome → Second spec outcome)
-    → (jobs : List Job) (lines : List JobLine) → AreLinesOfJobs First jobs lines → AreLinesOfJobs Second jobs lines
-each_ends First Second follows [] [] are = tt
-each_ends First Second follows [] (line ∷ lines) are = absurd are
-each_ends First Second follows (job ∷ jobs) [] are = absurd are
-each_ends First Second follows (job ∷ jobs) (line ∷ lines) are =
-    (are.0, follows job.spec line.outcome are.1, each_ends First Second follows jobs lines are.2)
+each_ends : (Each : StatedJob → Type 0) (First Second : StatedJob → Outcome → Type 0) → ((job : StatedJob) (outcome : Outcome) → Each job → First job outcome → Second job outcome)
+    → (jobs : List StatedJob) (lines : List JobLine) → All Each jobs → AreLinesOfJobs First jobs lines → AreLinesOfJobs Second jobs lines
+each_ends Each First Second follows [] [] all are = tt
+each_ends Each First Second follows [] (line ∷ lines) all are = absurd are
+each_ends Each First Second follows (job ∷ jobs) [] all are = absurd are
+each_ends Each First Second follows (job ∷ jobs) (line ∷ lines) all are =
+    (are.0, follows job line.outcome (All-head Each job jobs all) are.1, each_ends Each First Second follows jobs lines (All-tail Each job jobs all) are.2)
 
 -- the depot tells the grid that was loaded
-tells : (told : Option Files) (held : Files) (command : RunCommand) (cat : Catalogue) (jobs : List Job) (holds : HoldsRun command held cat jobs) → told ≡ Some held
+tells : (told : Option Files) (held : Files) (command : RunCommand) (cat : Catalogue) (jobs : List StatedJob) (holds : HoldsRun command held cat jobs) → told ≡ Some held
     → TellsGrid told command.grid cat holds.bytes
 tells told held command cat jobs holds is =
     record { files = held; is_told = is; there = holds.grid_file; size = command.chunk; catalogue = holds.grid }
 
 -- the reads of the opening, of the job text and of the jobs' runs
-all_reads : (cat : Catalogue) (edges : List Edge) (jobs : List Job) (first mid last : ℕ) → mid ≡ counted (counted_times (opening_reads cat.places) first)
+all_reads : (cat : Catalogue) (edges : List Edge) (jobs : List StatedJob) (first mid last : ℕ) → mid ≡ counted (counted_times (opening_reads cat.places) first)
     → last ≡ counted_times (runs_weight cat edges jobs) mid → last ≡ counted_times (reads_of_run cat edges jobs) first
 all_reads cat edges jobs first mid last opened ran =
     let weight = runs_weight cat edges jobs in
     let order : suc (opening_reads cat.places) + weight ≡ opening_reads cat.places + 1 + weight = omega arith in
     ran ∙ ap (counted_times weight) opened ∙ sym (counted_times-add (suc (opening_reads cat.places)) weight first) ∙ ap (λ (n : ℕ). counted_times n first) order
 
-lines_in : {D : Type 0} (g : Depot.Ghosts D) (old mid new : D) (told : Option Files) (command : RunCommand) (cat : Catalogue) (jobs : List Job) (lines : List JobLine)
+lines_in : {D : Type 0} (g : Depot.Ghosts D) (old mid new : D) (told : Option Files) (command : RunCommand) (cat : Catalogue) (jobs : List StatedJob) (lines : List JobLine)
     → g.files mid ≡ told → g.calm mid ≡ g.calm old → g.reads mid ≡ counted (counted_times (opening_reads cat.places) (g.reads old))
-    → EdgesBack → Settles → Graphs
+    → EdgesBack → Settles → Views → Graphs → SeesVertices cat.dimensions.n jobs
     → IfSome told (λ held. HoldsRun command held cat jobs)
     → ((bytes : List ℕ) → TellsGrid (g.files mid) command.grid cat bytes → RunOver cat (edges_in bytes) (depot_change g mid new) jobs lines)
     → IfSome told (λ held. AreLinesOf command (depot_change g old new) held lines)
-lines_in g old mid new None command cat jobs lines files calm opened back settles graphs holds ran = tt
-lines_in g old mid new (Some held) command cat jobs lines files calm opened back settles graphs holds ran =
+lines_in g old mid new None command cat jobs lines files calm opened back settles views graphs seen holds ran = tt
+lines_in g old mid new (Some held) command cat jobs lines files calm opened back settles views graphs seen holds ran =
     let is = holds.grid in
     let same = back holds.bytes is.n is.parts is.blocks is.grid in
     let graph = graphs holds.bytes command.chunk cat is in
     let over = ran holds.bytes (tells (g.files mid) held command cat jobs holds files) in
-    let ended = each_ends _ _ (in_time cat (edges_in holds.bytes) (g.calm mid) settles graph.0 graph.1) jobs lines over.ended in
+    let ended = each_ends _ _ _ (in_time cat (edges_in holds.bytes) (g.calm mid) settles views graph.0 graph.1) jobs lines seen over.ended in
     record {
       cat = cat;
       jobs = jobs;
@@ -99,20 +112,20 @@ lines_in g old mid new (Some held) command cat jobs lines files calm opened back
     }
 
 -- the lines of the jobs that were loaded, where they have some
-pub lines_reported : {D : Type 0} (g : Depot.Ghosts D) (old mid new : D) (command : RunCommand) (cat : Catalogue) (jobs : Vec Job Global) (result : Result (Vec JobLine Global) Failure)
-    → ReadsFiles {T = Catalogue × Vec Job Global} (3 + MAX_CHUNKS) (files_reading command) (depot_change g old mid) (Ok (cat, jobs))
+pub lines_reported : {D : Type 0} (g : Depot.Ghosts D) (old mid new : D) (command : RunCommand) (cat : Catalogue) (script : List Line) (result : Result (Vec JobLine Global) Failure)
+    → ReadsFiles {T = Catalogue × List Line} (3 + MAX_CHUNKS) (files_reading command) (depot_change g old mid) (Ok (cat, script))
     → g.reads mid ≡ counted (counted_times (opening_reads cat.places) (g.reads old))
-    → EdgesBack → Settles → Graphs → StatesJobs cat.dimensions.n jobs.items
-    → IfSome (g.files old) (λ held. HoldsRun command held cat jobs.items)
-    → IfOk result (λ lines. AreLinesOfJobs (λ spec outcome. IsTold outcome) jobs.items lines.items)
+    → EdgesBack → Settles → Views → Graphs → SeesVertices cat.dimensions.n (jobs_of script) → StatesJobs cat.dimensions.n (jobs_of script)
+    → IfSome (g.files old) (λ held. HoldsRun command held cat (jobs_of script))
+    → IfOk result (λ lines. AreLinesOfJobs (λ job outcome. IsTold outcome) (jobs_of script) lines.items)
     → ((bytes : List ℕ) → TellsGrid (g.files mid) command.grid cat bytes
-    → IfOk result (λ lines. RunOver cat (edges_in bytes) (depot_change g mid new) jobs.items lines.items))
+    → IfOk result (λ lines. RunOver cat (edges_in bytes) (depot_change g mid new) (jobs_of script) lines.items))
     → IfOk result (λ lines. FaultsOf lines.items (g.faults mid) (g.faults new))
     → IfOk result (λ lines. AreReported command (depot_change g old new) lines.items)
-lines_reported g old mid new command cat jobs (Ok lines) files opened back settles graphs states holds told ran faults =
+lines_reported g old mid new command cat script (Ok lines) files opened back settles views graphs seen states holds told ran faults =
     record {
-      some = record { n = cat.dimensions.n; jobs = jobs.items; states = states; told = told };
-      told = lines_in g old mid new (g.files old) command cat jobs.items lines.items files.frame.files_kept files.frame.calm_kept opened back settles graphs holds ran;
+      some = record { n = cat.dimensions.n; jobs = jobs_of script; states = states; told = told };
+      told = lines_in g old mid new (g.files old) command cat (jobs_of script) lines.items files.frame.files_kept files.frame.calm_kept opened back settles views graphs seen holds ran;
       faults = subst (λ (before : ℕ). FaultsOf lines.items before (g.faults new)) files.ok.1 faults;
     }
-lines_reported g old mid new command cat jobs (Err failure) files opened back settles graphs states holds told ran faults = tt
+lines_reported g old mid new command cat script (Err failure) files opened back settles views graphs seen states holds told ran faults = tt

@@ -8,7 +8,7 @@ use Rattle.gm_outside.specs.Growth.{GrewBy, GrewByPrefix}
 use Rattle.gm_grid.specs.Format.{edges_of_grid}
 use Rattle.gm_label.specs.Catalogues.{Catalogue}
 use Rattle.gm_source.specs.Openings.{file_reads}
-use Rattle.gm_jobs.specs.declared.job.Job.{Job}
+use Rattle.gm_jobs.specs.StatedJobs.{StatedJob}
 use Rattle.gm_commands.specs.declared.failure.Failure.{Failure}
 use Rattle.gm_words.specs.Commands.{Command, run, build, info, RunCommand}
 use Rattle.gm_commands.specs.declared.failure.Failure.TheVariants.{Refused, ReadFailed, WriteFailed, OutputFailed, OutOfMemory}
@@ -71,7 +71,7 @@ OpenedFew command depot files =
 -- no more was read than the whole run takes
 pub record RanFew (command : RunCommand) (depot : DepotChange) (files : Files) : Type 0 where
   pub cat : Catalogue
-  pub jobs : List Job
+  pub jobs : List StatedJob
   pub holds : HoldsRun command files cat jobs
   pub few : depot.reads_now ≤ depot.reads + reads_of_run cat (edges_of_grid holds.grid.blocks) jobs
 

@@ -1,14 +1,13 @@
 -- How a run reads its files: first the grid, and then the jobs.
-use Rattle.std.specs.Prelude.{◌≡◌, ℕ, true, List, Option, Some, None, Result, Ok, Err}
+use Rattle.std.specs.Prelude.{◌≡◌, ℕ, true, if◌then◌else◌, List, Option, Some, None, Result, Ok, Err}
 use Rattle.std.specs.FinMap.{get}
 use Rattle.gm_outside.specs.Files.{Files}
 use Rattle.gm_grid.specs.GridBytes.{shape_in}
 use Rattle.gm_label.specs.Catalogues.{Catalogue}
 use Rattle.gm_source.specs.Openings.{IsCatalogueOf}
-use Rattle.gm_jobs.specs.declared.job.Job.{Job}
+use Rattle.gm_jobs.specs.StatedJobs.{StatedJob, is_built, stated_jobs}
 use Rattle.gm_jobs.specs.declared.jobs_error.JobsRefusal.{JobsRefusal}
 use Rattle.gm_jobs.specs.declared.script.Line.{Line}
-use Rattle.gm_jobs.specs.BuiltJobs.{built_jobs, stated_jobs}
 use Rattle.gm_jobs.specs.Scripts.{script_of}
 use Rattle.gm_commands.specs.declared.failure.Operand.TheVariants as operand
 use Rattle.gm_commands.specs.declared.failure.Failure.{Failure}
@@ -19,14 +18,9 @@ use Rattle.gm_words.specs.Commands.{RunCommand}
 use Rattle.gm_commands.specs.Readings.{Reading, reading_of_file, reading_then}
 use Rattle.gm_tools.specs.Grids.{grid_reading}
 
--- a script all of whose entries are built is taken
-abbrev pub unbuilt_refusal : Option (List Job) → Option Refusal
-unbuilt_refusal None = Some NotBuiltYet
-unbuilt_refusal (Some jobs) = None
-
--- what was read is refused as a job text first
+-- what was read is refused as a job text first. A script all of whose entries are built is taken
 abbrev pub script_refusal : Result (List Line) JobsRefusal → Option Refusal
-script_refusal (Ok entries) = unbuilt_refusal (built_jobs entries)
+script_refusal (Ok entries) = if is_built entries then None else Some NotBuiltYet
 script_refusal (Err refusal) = Some (JobText refusal)
 
 -- why this text is refused for a graph of n vertices
@@ -65,19 +59,19 @@ abbrev pub run_reading : RunCommand → Reading
 run_reading command = record (files_reading command) { fetches = true }
 
 -- the file states these jobs for a graph of n vertices
-pub record TellsJobs (files : Files) (name : List ℕ) (n : ℕ) (jobs : List Job) : Type 0 where
+pub record TellsJobs (files : Files) (name : List ℕ) (n : ℕ) (jobs : List StatedJob) : Type 0 where
   pub text : List ℕ
   pub file : get files name ≡ Some text
   pub tells : stated_jobs n text ≡ Some jobs
 
 -- The files of a run: a grid, cut into chunks, and jobs over it.
-pub record HoldsRun (command : RunCommand) (files : Files) (cat : Catalogue) (jobs : List Job) : Type 0 where
+pub record HoldsRun (command : RunCommand) (files : Files) (cat : Catalogue) (jobs : List StatedJob) : Type 0 where
   pub bytes : List ℕ
   pub grid_file : get files command.grid ≡ Some bytes
   pub grid : IsCatalogueOf bytes command.chunk cat
   pub told_jobs : TellsJobs files command.jobs cat.dimensions.n jobs
 
 -- some text states these jobs for a graph of n vertices
-pub record StatesJobs (n : ℕ) (jobs : List Job) : Type 0 where
+pub record StatesJobs (n : ℕ) (jobs : List StatedJob) : Type 0 where
   pub text : List ℕ
   pub states : stated_jobs n text ≡ Some jobs

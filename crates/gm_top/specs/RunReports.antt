@@ -6,7 +6,6 @@ use Rattle.gm_base.specs.declared.edge.Edge.{Edge}
 use Rattle.gm_base.specs.declared.job.JobLine.{JobLine}
 use Rattle.gm_base.specs.declared.job.Outcome.{Outcome}
 use Rattle.gm_base.specs.declared.job.Outcome.TheVariants.{Done, Rounds}
-use Rattle.gm_base.specs.declared.job.Spec.{Spec}
 use Rattle.gm_outside.specs.Causes.{counted_times}
 use Rattle.gm_outside.specs.Files.{Files}
 use Rattle.gm_outside.specs.Frames.{DepotChange, SinkChange}
@@ -15,7 +14,7 @@ use Rattle.gm_label.specs.Catalogues.{Catalogue}
 use Rattle.gm_source.specs.Openings.{opening_reads}
 use Rattle.gm_job_run.specs.JobLines.{AreLinesOfJobs, EndsOver, FaultsOf, IsTold, failed_reads, runs_weight}
 use Rattle.gm_report.specs.Report.{report_text}
-use Rattle.gm_jobs.specs.declared.job.Job.{Job}
+use Rattle.gm_jobs.specs.StatedJobs.{StatedJob}
 use Rattle.gm_words.specs.Commands.{RunCommand}
 use Rattle.gm_top.specs.RunReadings.{HoldsRun, StatesJobs}
 
@@ -35,20 +34,20 @@ status_after lines = if list_any is_failed lines then 1 else 0
 abbrev pub FailsEarly : ℕ → Outcome → Type 0
 FailsEarly n outcome = (bound : ℕ) → outcome ≡ Rounds bound → bound < n
 
--- the job ended as its lone run over these edges, or at a chunk that it needed and that couldn't be read; at its bound only where that is low
-abbrev pub EndsInTime : Catalogue → List Edge → Bool → Spec → Outcome → Type 0
-EndsInTime cat edges calm spec outcome = EndsOver cat edges calm spec outcome × FailsEarly cat.dimensions.n outcome
+-- the job ended as its lone run over what it sees of these edges, or at a chunk that it needed and that couldn't be read; at its bound only where that is low
+abbrev pub EndsInTime : Catalogue → List Edge → Bool → StatedJob → Outcome → Type 0
+EndsInTime cat edges calm job outcome = EndsOver cat edges calm job outcome × FailsEarly cat.dimensions.n outcome
 
 -- how many reads a run takes whose fetches are all served: those of the opening, that of the job text, and for each job one for each chunk
 -- with edges that a phase of its lone run needs
-abbrev pub reads_of_run : Catalogue → List Edge → List Job → ℕ
+abbrev pub reads_of_run : Catalogue → List Edge → List StatedJob → ℕ
 reads_of_run cat edges jobs = opening_reads cat.places + 1 + runs_weight cat edges jobs
 
 -- These are the lines of the command's jobs, in file order: the files are there, one is a grid and the other states the jobs. Without a
 -- failed read the run took exactly its reads.
 pub record AreLinesOf (command : RunCommand) (depot : DepotChange) (files : Files) (lines : List JobLine) : Type 0 where
   pub cat : Catalogue
-  pub jobs : List Job
+  pub jobs : List StatedJob
   pub holds : HoldsRun command files cat jobs
   pub ended : AreLinesOfJobs (EndsInTime cat (edges_of_grid holds.grid.blocks) depot.calm) jobs lines
   pub reads : failed_reads lines ≡ 0 → depot.reads_now ≡ counted_times (reads_of_run cat (edges_of_grid holds.grid.blocks) jobs) depot.reads
@@ -56,9 +55,9 @@ pub record AreLinesOf (command : RunCommand) (depot : DepotChange) (files : File
 -- Whatever the depot tells: these are lines of some job text's jobs, none of which wants memory.
 pub record AreSomeLines (lines : List JobLine) : Type 0 where
   pub n : ℕ
-  pub jobs : List Job
+  pub jobs : List StatedJob
   pub states : StatesJobs n jobs
-  pub told : AreLinesOfJobs (λ spec outcome. IsTold outcome) jobs lines
+  pub told : AreLinesOfJobs (λ job outcome. IsTold outcome) jobs lines
 
 -- These lines are those of the command's jobs, where the files are told. The depot's faults rose by no less than the failed reads, and
 -- where there are none they are as they were.

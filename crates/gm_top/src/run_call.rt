@@ -1,18 +1,18 @@
 //! One run: the files, the jobs over the grid's chunks, and the report.
 
-ghost use Rattle.std.specs.Prelude.{◌≡◌, ◌+◌, ◌≤◌, ℕ, List, [], ◌∷◌, length, All, Some, None, IfOk, OnOk, IfErr, IfSome, MatchResult};
+ghost use Rattle.std.specs.Prelude.{◌≡◌, true, ◌+◌, ◌≤◌, ℕ, List, [], ◌∷◌, length, All, Some, None, IfOk, OnOk, IfErr, IfSome, MatchResult};
 ghost use Rattle.std.specs.List.{list_any};
-ghost use Rattle.gm_base.specs.declared.limits.TheConstants.{MAX_CHUNKS, MAX_CHUNK_SIZE, MAX_VERTICES};
 ghost use Rattle.gm_outside.specs.Calls.{depot_change, sink_change};
+ghost use Rattle.gm_base.specs.declared.limits.TheConstants.{MAX_CHUNKS, MAX_CHUNK_SIZE, MAX_VERTICES};
+ghost use Rattle.gm_jobs.specs.StatedJobs.{is_built, jobs_of, stated_jobs};
 ghost use Rattle.gm_outside.specs.Causes.{counted, counted_times};
-ghost use Rattle.gm_grid.specs.GridBytes.{edges_in};
-ghost use Rattle.gm_kernel.specs.Runs.{most_rounds};
-ghost use Rattle.gm_source.specs.Openings.{opening_reads};
 ghost use Rattle.gm_job_run.specs.JobLines.{AreLinesOfJobs, FaultsOf, IsTold, RunOver, runs_weight};
+ghost use Rattle.gm_grid.specs.GridBytes.{edges_in};
+ghost use Rattle.gm_source.specs.Openings.{opening_reads};
 ghost use Rattle.gm_source.specs.Fetches.{TellsGrid};
-ghost use Rattle.gm_jobs.specs.BuiltJobs.{stated_jobs};
-ghost use Rattle.gm_job_run.specs.JobRuns.{ReadsSome};
 ghost use Rattle.gm_commands.specs.Readings.{AreTaken, ReadsFiles};
+ghost use Rattle.gm_jobs.specs.JobBounds.{IsScriptOver};
+ghost use Rattle.gm_job_run.specs.JobRuns.{ReadsSome};
 ghost use Rattle.gm_words.specs.Commands.{run_said};
 ghost use Rattle.gm_commands.specs.Endings.{Handles};
 ghost use Rattle.gm_commands.specs.Failures.{status_of};
@@ -23,9 +23,10 @@ ghost use Rattle.gm_top.specs.RunReadings.{IsRefusalOrMemory, jobs_text_refusal,
 use gm_base::{JobLine, Memory, Outcome};
 use gm_commands::{Failure, FileText, Operand, Refusal, read_file};
 use gm_grid::laws::grid_reads_back;
-use gm_job_run::run_jobs;
-use gm_jobs::laws::{long_text_is_refused, stated_jobs_make_some_round};
-use gm_jobs::{Job, JobsRefusal, MAX_TEXT_BYTES, built_jobs, read};
+use gm_job_run::laws::{jobs_see_vertices, views_are_graphs};
+use gm_job_run::run_script;
+use gm_jobs::laws::{long_text_is_refused, scripts_are_within_bounds};
+use gm_jobs::{JobsRefusal, MAX_TEXT_BYTES, Script, read};
 use gm_kernel::laws::jobs_settle_by_round_n;
 use gm_label::Catalogue;
 use gm_outside::{Depot, Sink};
@@ -36,13 +37,16 @@ use gm_words::RunCommand;
 use std::alloc::Global;
 use std::sync::Arc;
 
-/// The jobs that a text states, for a graph of n vertices.
-fn jobs_of_text(alloc: Global, text: &[u8], n: u32) -> Result<Vec<Job>, Failure>
+/// The script of a text, for a graph of n vertices, all of which is built.
+fn read_script(alloc: Global, text: &[u8], n: u32) -> Result<Script, Failure>
     requires { (1 ≤ n) × (n ≤ MAX_VERTICES) }
-    ensures stated { IfOk result (λ jobs. stated_jobs n text.now ≡ Some jobs.items) }
+    ensures stated { IfOk result (λ script. stated_jobs n text.now ≡ Some (jobs_of script)) }
+    ensures built { IfOk result (λ script. is_built script ≡ true) }
+    ensures over { IfOk result (IsScriptOver n) }
     ensures taken { OnOk result (jobs_text_refusal n text.now ≡ None) }
     ensures err { IfErr result (IsRefusalOrMemory (jobs_text_refusal n text.now)) }
 {
+    scripts_are_within_bounds();
     let script = match read(alloc, text, n) {
         Ok(script) => script,
         Err(error) => {
@@ -52,23 +56,24 @@ fn jobs_of_text(alloc: Global, text: &[u8], n: u32) -> Result<Vec<Job>, Failure>
             });
         }
     };
-    match built_jobs(alloc, script) {
-        Ok(Some(jobs)) => Ok(jobs),
-        Ok(None) => Err(Failure::Refused(Refusal::NotBuiltYet)),
-        Err(Memory) => Err(Failure::OutOfMemory),
+    if !script.is_built() {
+        return Err(Failure::Refused(Refusal::NotBuiltYet));
     }
+    Ok(script)
 }
 
-/// The jobs of the command, for a graph of n vertices. A text that is too long isn't read.
-fn load_jobs<D: Depot>(
+/// The script of the command's job text, for a graph of n vertices. A text that is too long isn't read.
+fn load_script<D: Depot>(
     alloc: Global,
     depot: &mut D,
     command: &RunCommand<'_>,
     n: u32,
-) -> Result<Vec<Job>, Failure>
+) -> Result<Script, Failure>
     requires { (1 ≤ n) × (n ≤ MAX_VERTICES) }
-    ensures tells { IfSome (D.files depot.old) (λ files. IfOk result (λ jobs. TellsJobs files command.now.jobs.now n jobs.items)) }
-    ensures states { IfOk result (λ jobs. StatesJobs n jobs.items) }
+    ensures tells { IfSome (D.files depot.old) (λ files. IfOk result (λ script. TellsJobs files command.now.jobs.now n (jobs_of script))) }
+    ensures states { IfOk result (λ script. StatesJobs n (jobs_of script)) }
+    ensures built { IfOk result (λ script. is_built script ≡ true) }
+    ensures over { IfOk result (IsScriptOver n) }
     ensures read { OnOk result (D.reads depot.new ≡ counted (D.reads depot.old)) }
     ensures reads { ReadsFiles 1 (jobs_reading (run_said command.now) n) (depot_change ⟦<D as Depot>⟧ depot.old depot.new) result }
 {
@@ -86,45 +91,46 @@ fn load_jobs<D: Depot>(
             return Err(Failure::Refused(Refusal::JobText(refusal)));
         }
     };
-    jobs_of_text(alloc, &text, n)
+    read_script(alloc, &text, n)
 }
 
-/// The catalogue of the command's grid, and its jobs.
+/// The catalogue of the command's grid, and the script of its job text.
 fn load<D: Depot>(
     alloc: Global,
     depot: &mut D,
     command: &RunCommand<'_>,
-) -> Result<(Catalogue, Vec<Job>), Failure>
+) -> Result<(Catalogue, Script), Failure>
     requires { (1 ≤ command.now.chunk) × (command.now.chunk ≤ MAX_CHUNK_SIZE) }
-    ensures holds { IfOk result (λ loaded. IfSome (D.files depot.old) (λ files. HoldsRun (run_said command.now) files loaded.0 loaded.1.items)) }
-    ensures states { IfOk result (λ loaded. StatesJobs loaded.0.dimensions.n loaded.1.items) }
+    ensures holds { IfOk result (λ loaded. IfSome (D.files depot.old) (λ files. HoldsRun (run_said command.now) files loaded.0 (jobs_of loaded.1))) }
+    ensures states { IfOk result (λ loaded. StatesJobs loaded.0.dimensions.n (jobs_of loaded.1)) }
+    ensures built { IfOk result (λ loaded. is_built loaded.1 ≡ true) }
+    ensures over { IfOk result (λ loaded. IsScriptOver loaded.0.dimensions.n loaded.1) }
     ensures read { IfOk result (λ loaded. D.reads depot.new ≡ counted (counted_times (opening_reads loaded.0.places) (D.reads depot.old))) }
     ensures few { IfSome (D.files depot.old) (OpenedFew (run_said command.now) (depot_change ⟦<D as Depot>⟧ depot.old depot.new)) }
-    ensures some_rounds { IfOk result (λ loaded. All (λ (job : Job). 1 ≤ most_rounds job.spec) loaded.1.items) }
     ensures reads { ReadsFiles (3 + MAX_CHUNKS) (files_reading (run_said command.now)) (depot_change ⟦<D as Depot>⟧ depot.old depot.new) result }
 {
     grid_reads_back();
-    stated_jobs_make_some_round();
     let cat = load_grid(alloc, depot, command.grid, command.chunk)?;
     let n = cat.shape().n();
-    let jobs = load_jobs(alloc, depot, command, n)?;
-    Ok((cat, jobs))
+    let script = load_script(alloc, depot, command, n)?;
+    Ok((cat, script))
 }
 
-/// The lines of the jobs that were loaded, run over the grid of this name.
+/// The lines of the script's jobs, run over the grid of this name.
 fn run_loaded<D: Depot>(
     alloc: Global,
     depot: &mut D,
     name: &str,
     cat: Catalogue,
-    jobs: Vec<Job>,
+    script: Script,
 ) -> Result<Vec<JobLine>, Failure>
-    requires { All (λ (job : Job). 1 ≤ most_rounds job.spec) jobs.items }
-    ensures lines { IfOk result (λ lines. AreLinesOfJobs (λ spec outcome. IsTold outcome) jobs.items lines.items) }
+    requires built { is_built script ≡ true }
+    requires over { IsScriptOver cat.dimensions.n script }
+    ensures lines { IfOk result (λ lines. AreLinesOfJobs (λ job outcome. IsTold outcome) (jobs_of script) lines.items) }
     ensures ends { (bytes : List ℕ) → TellsGrid (D.files depot.old) name.now cat bytes
-        → IfOk result (λ lines. RunOver cat (edges_in bytes) (depot_change ⟦<D as Depot>⟧ depot.old depot.new) jobs.items lines.items) }
+        → IfOk result (λ lines. RunOver cat (edges_in bytes) (depot_change ⟦<D as Depot>⟧ depot.old depot.new) (jobs_of script) lines.items) }
     ensures few { (bytes : List ℕ) → TellsGrid (D.files depot.old) name.now cat bytes
-        → D.reads depot.new ≤ D.reads depot.old + runs_weight cat (edges_in bytes) jobs.items }
+        → D.reads depot.new ≤ D.reads depot.old + runs_weight cat (edges_in bytes) (jobs_of script) }
     ensures faults { IfOk result (λ lines. FaultsOf lines.items (D.faults depot.old) (D.faults depot.new)) }
     ensures memory { IfErr result (λ failure. failure ≡ Failure.OutOfMemory) }
     ensures frame { ReadsSome (depot_change ⟦<D as Depot>⟧ depot.old depot.new) }
@@ -132,7 +138,7 @@ fn run_loaded<D: Depot>(
     let Ok(cat) = Arc::new(alloc, cat) else {
         return Err(Failure::OutOfMemory);
     };
-    match run_jobs(alloc, depot, name, &cat, jobs) {
+    match run_script(alloc, depot, name, &cat, script) {
         Ok(lines) => Ok(lines),
         Err(Memory) => Err(Failure::OutOfMemory),
     }
@@ -154,8 +160,10 @@ fn compute<D: Depot>(
     grid_reads_back();
     jobs_settle_by_round_n();
     catalogues_are_over_their_edges();
-    let (cat, jobs) = load(alloc, depot, command)?;
-    run_loaded(alloc, depot, command.grid, cat, jobs)
+    views_are_graphs();
+    jobs_see_vertices();
+    let (cat, script) = load(alloc, depot, command)?;
+    run_loaded(alloc, depot, command.grid, cat, script)
 }
 
 /// Whether a line tells of a failure.

@@ -14,25 +14,8 @@ use Rattle.gm_base.specs.Graph.{HasEndsBelow, IsGraph, is_same_edge}
 use Rattle.gm_label.specs.Catalogues.{Catalogue, place_at, sources_at, base_at, IsOver}
 use Rattle.gm_active.specs.Needs.{first_destination_of, end_destination_of}
 use Rattle.gm_work.specs.Views.{IsCutIntoChunks}
+use Rattle.gm_work.specs.ViewsRules.{blocks-in_columns}
 use Rattle.gm_work.specs.Held.{grid_view}
-
--- each edge goes to its block's column
-in_column : (d : Dimensions) (block : ℕ) (e : Edge) → AreDimensions d.n d.parts → HasEndsBelow d.n e → block_of d e ≡ block
-    → (first_destination_of d block ≤ e.to) × (e.to < end_destination_of d block)
-in_column d block e dims ends is =
-    let width = width_of d in
-    let column : block % d.parts ≡ range_of d e.to = ap (λ (b : ℕ). b % d.parts) (sym is) ∙ mod-mul-add (range_of d e.from) d.parts (range_of d e.to) (range_below d e.to dims ends.1) in
-    let first : first_destination_of d block ≡ range_of d e.to * width = ap (λ (r : ℕ). r * width) column in
-    let low = div-mul-le_self e.to width in
-    let some = width_above d dims in
-    let parts = div-add-mod e.to width in
-    let below = ends.1 in
-    (omega arith, omega arith)
-
-columns : (d : Dimensions) (block : ℕ) (es : List Edge) → AreDimensions d.n d.parts → AllByRecursion (HasEndsBelow d.n) es → AllByRecursion (λ e. block_of d e ≡ block) es
-    → AllByRecursion (λ e. (first_destination_of d block ≤ e.to) × (e.to < end_destination_of d block)) es
-columns d block [] dims ends blocks = tt
-columns d block (e ∷ es) dims ends blocks = (in_column d block e dims ends.0 blocks.0, columns d block es dims ends.1 blocks.1)
 
 listed : (u : ℕ) (sources : List ℕ) → list_any (λ s. eqb s u) sources ≡ true → list_any (λ s. eqb s u) (sources ++ []) ≡ true
 listed u sources h = ap (list_any (λ s. eqb s u)) (append-nil sources) ∙ h
@@ -50,8 +33,5 @@ grid_is_cut spec cat edges dims graph few over =
       ends = base_ends;
       sources = λ c. All-weaker (λ e. list_any (λ s. eqb s e.from) (sources_at cat c) ≡ true) (λ e. list_any (λ s. eqb s e.from) (sources_at cat c ++ []) ≡ true)
           (λ e h. listed e.from (sources_at cat c) h) (base_at cat edges c) (over.listed c);
-      columns = λ c. All-from_recursion _ (base_at cat edges c)
-          (columns cat.dimensions (place_at cat c).block (base_at cat edges c) dims
-          (recursion_from_All (HasEndsBelow cat.dimensions.n) (base_at cat edges c) (base_ends c))
-          (recursion_from_All (λ e. block_of cat.dimensions e ≡ (place_at cat c).block) (base_at cat edges c) (over.in_block c)));
+      columns = λ c. blocks-in_columns cat.dimensions (place_at cat c).block (base_at cat edges c) dims (base_ends c) (over.in_block c);
     }

@@ -1,5 +1,6 @@
 pub mod Entries
 pub mod Views
+pub mod ViewsRules
 pub mod Weights
 pub mod Held
 pub mod HeldRules

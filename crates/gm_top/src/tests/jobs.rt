@@ -13,13 +13,43 @@ const STOPPED: &[u8] = b"job a bfs 0 rounds 1\njob b bfs 1 rounds 3";
 const STOPPED_REPORTS: &[u8] =
     b"job a version 0 failed rounds 1\njob b version 0 done rounds 3\n0 -\n1 0\n2 1\n3 2\n";
 
+const ADDED_BETWEEN: &[u8] = b"job a bfs 0\nupdate\nadd 0 3 1\njob b bfs 0\n";
+
+const ADDED_REPORTS: &[u8] =
+    b"job a version 0 done rounds 3\n0 0\n1 1\n2 1\n3 2\njob b version 1 done rounds 2\n0 0\n1 1\n2 1\n3 1\n";
+
+const CUT_BEHIND_WAIT: &[u8] = b"job a bfs 0\nwait 2\nupdate\ndel 2 3\njob b bfs 0\n";
+
+const CUT_REPORTS: &[u8] =
+    b"job a version 0 done rounds 3\n0 0\n1 1\n2 1\n3 2\njob b version 1 done rounds 2\n0 0\n1 1\n2 1\n3 -\n";
+
+const ADDED_TO_AN_EMPTY_CHUNK: &[u8] = b"update\nadd 3 0 1\njob a bfs 3\n";
+
+const BACK_REPORT: &[u8] = b"job a version 1 done rounds 3\n0 1\n1 2\n2 2\n3 0\n";
+
+const FIRST_EDGE_CUT: &[u8] = b"update\ndel 0 1\njob a bfs 0\n";
+
+const CUT_REPORT: &[u8] = b"job a version 1 done rounds 3\n0 0\n1 -\n2 1\n3 2\n";
+
+const TWO_UPDATES: &[u8] =
+    b"update\ndel 2 3\nupdate\nadd 0 3 9\nadd 3 1 2\njob a sssp 0\nupdate\njob b wcc\n";
+
+const TWO_UPDATES_REPORTS: &[u8] =
+    b"job a version 2 done rounds 3\n0 0\n1 1\n2 2\n3 9\njob b version 3 done rounds 2\n0 0\n1 0\n2 0\n3 0\n";
+
 /// Job texts that are run, the status and the report, and how many reads the run makes. Expected values were worked out by hand.
-const RUN_TEXTS: [(&[u8], u8, &[u8], u64); 5] = [
+const RUN_TEXTS: [(&[u8], u8, &[u8], u64); 11] = [
     (TWO_JOBS, 0, TWO_REPORTS, 13),
     (STOPPED, 1, STOPPED_REPORTS, 11),
     (b"wait 5\r\n\tjob a bfs 0\nwait 1", 0, REPORT, 11),
     (b"", 0, b"", 7),
     (b"# nothing\n\nwait 3\n", 0, b"", 7),
+    (b"update\nadd 0 3 1\nupdate", 0, b"", 7),
+    (ADDED_BETWEEN, 0, ADDED_REPORTS, 15),
+    (CUT_BEHIND_WAIT, 0, CUT_REPORTS, 15),
+    (ADDED_TO_AN_EMPTY_CHUNK, 0, BACK_REPORT, 11),
+    (FIRST_EDGE_CUT, 0, CUT_REPORT, 10),
+    (TWO_UPDATES, 0, TWO_UPDATES_REPORTS, 20),
 ];
 
 #[test]
@@ -34,8 +64,7 @@ fn job_texts_are_run(rt: HostRuntime) -> Result<(), Fail> {
 }
 
 /// Job texts that are refused, and what the line says behind the file's name.
-const REFUSED_TEXTS: [(&[u8], &str); 9] = [
-    (b"update\n", "not built yet"),
+const REFUSED_TEXTS: [(&[u8], &str); 8] = [
     (b"job a bfs 0\nmutate add 0 3 1\n", "not built yet"),
     (b"update\njob a bfs 4\n", "line 2: no such vertex"),
     (b"job a bfs 0\nadd 0 1 1\n", "line 2: out of place"),

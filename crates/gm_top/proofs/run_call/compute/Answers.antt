@@ -1,10 +1,11 @@
 use Rattle.std.specs.Prelude.{◌+◌, Result}
-use Rattle.std.proofs.Common.{Vec, Global, inl, subst, arith}
+use Rattle.std.proofs.Common.{List, inl, subst, arith}
 use Rattle.gm_base.specs.declared.limits.TheConstants.{MAX_CHUNKS}
 use Rattle.gm_outside.specs.Calls.{depot_change}
 use Rattle.gm_outside.specs.FramesRules.{only_reads-then}
 use Rattle.gm_label.specs.Catalogues.{Catalogue}
-use Rattle.gm_jobs.specs.declared.job.Job.{Job}
+use Rattle.gm_jobs.specs.declared.script.Line.{Line}
+use Rattle.gm_jobs.specs.StatedJobs.{jobs_of}
 use Rattle.gm_commands.specs.declared.failure.Failure.{Failure}
 use Rattle.gm_words.specs.Commands.{run_said}
 use Rattle.gm_commands.specs.Readings.{ReadsFiles}
@@ -16,9 +17,10 @@ use Rattle.gm_top.proofs.run_call.compute.Goals as goal
 pub returns-clause-lines : goal.returns-clause-lines
 returns-clause-lines g c =
     let command = run_said c.args.command.now in
-    let files = subst (λ (r : Result (Catalogue × Vec Job Global) Failure). ReadsFiles (3 + MAX_CHUNKS) (files_reading command) (depot_change g.D.Depot c.args.depot.now c.load.new.depot) r) c.in_ok-cat.was c.load.ensures.reads in
+    let files = subst (λ (r : Result (Catalogue × List Line) Failure). ReadsFiles (3 + MAX_CHUNKS) (files_reading command) (depot_change g.D.Depot c.args.depot.now c.load.new.depot) r) c.in_ok-cat.was c.load.ensures.reads in
     let graphs : Graphs = λ bytes size cat is. (c.catalogues_are_over_their_edges.ensures.graph bytes size cat is, (c.catalogues_are_over_their_edges.ensures.dimensions bytes size cat is).some_vertex) in
-    lines_reported g.D.Depot _ _ _ command c.in_ok-cat.cat c.in_ok-cat.jobs c.run_loaded.result files c.in_ok-cat.ensures.read c.grid_reads_back.ensures.edges c.jobs_settle_by_round_n.ensures.bound graphs
+    lines_reported g.D.Depot _ _ _ command c.in_ok-cat.cat c.in_ok-cat.script c.run_loaded.result files c.in_ok-cat.ensures.read c.grid_reads_back.ensures.edges c.jobs_settle_by_round_n.ensures.bound c.views_are_graphs.ensures graphs
+    (c.jobs_see_vertices.ensures _ c.in_ok-cat.script c.in_ok-cat.ensures.over)
     c.in_ok-cat.ensures.states c.in_ok-cat.ensures.holds c.run_loaded.ensures.lines c.run_loaded.ensures.ends c.run_loaded.ensures.faults
 
 pub returns-clause-reads : goal.returns-clause-reads
@@ -27,6 +29,6 @@ returns-clause-reads g c =
     let files = c.load.ensures.reads in
     let ran = c.run_loaded.ensures.frame in
     reads_run-matched command _ c.run_loaded.result c.run_loaded.ensures.memory
-    (reads_run-ran command (depot_change g.D.Depot c.args.depot.now c.run_loaded.new.depot) 0 (g.D.Depot.reads c.load.new.depot) (g.D.Depot.files c.load.new.depot) c.in_ok-cat.cat c.in_ok-cat.jobs.items
+    (reads_run-ran command (depot_change g.D.Depot c.args.depot.now c.run_loaded.new.depot) 0 (g.D.Depot.reads c.load.new.depot) (g.D.Depot.files c.load.new.depot) c.in_ok-cat.cat (jobs_of c.in_ok-cat.script)
     c.grid_reads_back.ensures.edges files.frame.files_kept c.in_ok-cat.ensures.read c.in_ok-cat.ensures.holds c.run_loaded.ensures.few
     ((3 + MAX_CHUNKS) + ran.0, only_reads-then g.D.Depot _ _ _ (3 + MAX_CHUNKS) ran.0 files.frame ran.1) (inl (omega arith)))

@@ -1,0 +1,115 @@
+//! The jobs of a script over a depot's chunks, one after the other.
+
+ghost use Rattle.std.specs.Prelude.{◌≡◌, ◌≤◌, ◌+◌, ℕ, List, [], true, length, IfOk, MatchResult};
+ghost use Rattle.std.specs.Arc.{arc_value};
+ghost use Rattle.gm_outside.specs.Calls.{depot_change};
+ghost use Rattle.gm_job_run.specs.JobRuns.{pass_reads, JobEnds, FaultsFor, ReadsSome};
+ghost use Rattle.gm_grid.specs.GridBytes.{edges_in};
+ghost use Rattle.gm_jobs.specs.JobBounds.{IsScriptOver};
+ghost use Rattle.gm_jobs.specs.StatedJobs.{is_built, jobs_of};
+ghost use Rattle.gm_source.specs.Fetches.{TellsGrid};
+ghost use Rattle.gm_job_run.specs.JobLines.{AreLinesOfJobs, IsTold, RunOver, FaultsOf, job_below, line_of_job, view_of_job, runs_weight};
+ghost use Rattle.gm_kernel.specs.Runs.{most_rounds};
+ghost use Rattle.gm_work.specs.Weights.{run_weight};
+ghost use Rattle.gm_versions.specs.Kept.{IsOf};
+ghost use Rattle.gm_job_run.specs.SeenViews.{IsSeenOver, seen_by};
+
+use crate::job_run::run_job;
+use crate::view::View;
+use gm_base::{JobLine, Memory, Name, Spec};
+use gm_jobs::{Line, Script};
+use gm_label::Catalogue;
+use gm_outside::Depot;
+use gm_source::Fetcher;
+use gm_versions::Versions;
+use std::alloc::Global;
+use std::sync::Arc;
+
+/// A job of a script that has no changes of its own.
+#[derive(Drop)]
+struct Job {
+    /// In file order, from 0.
+    number: u32,
+    name: Name,
+    spec: Spec,
+}
+
+/// The line of a job that is run over the chunks of a grid with all of these updates.
+fn run_line<D: Depot>(
+    alloc: Global,
+    fetcher: &mut Fetcher,
+    depot: &mut D,
+    grid: &str,
+    cat: Arc<Catalogue>,
+    versions: &Versions,
+    job: Job,
+) -> Result<JobLine, Memory>
+    requires some { 1 ≤ most_rounds job.spec }
+    requires versions { IsOf (arc_value cat) versions.now }
+    requires over { IsSeenOver (arc_value cat).dimensions.n (seen_by (job_below versions.now job)) }
+    ensures line { IfOk result (λ line. line ≡ line_of_job (job_below versions.now job) line.outcome) }
+    ensures ends { (bytes : List ℕ) → TellsGrid (D.files depot.old) grid.now (arc_value cat) bytes
+        → IfOk result (λ line. JobEnds (view_of_job (arc_value cat) (edges_in bytes) (job_below versions.now job)) (pass_reads (arc_value cat))
+        (depot_change ⟦<D as Depot>⟧ depot.old depot.new) line.outcome) }
+    ensures few { (bytes : List ℕ) → TellsGrid (D.files depot.old) grid.now (arc_value cat) bytes
+        → D.reads depot.new ≤ D.reads depot.old + run_weight (view_of_job (arc_value cat) (edges_in bytes) (job_below versions.now job)) (pass_reads (arc_value cat)) }
+    ensures faults { MatchResult result (λ line. FaultsFor (D.faults depot.old) (D.faults depot.new) line.outcome) (λ _. D.faults depot.new ≡ D.faults depot.old) }
+    ensures frame { ReadsSome (depot_change ⟦<D as Depot>⟧ depot.old depot.new) }
+{
+    let version = versions.count();
+    let view = View {
+        name: grid,
+        versions,
+        job: job.number,
+        version,
+    };
+    let outcome = run_job(alloc, fetcher, depot, &view, cat, job.spec)?;
+    Ok(JobLine {
+        name: job.name,
+        version,
+        outcome,
+    })
+}
+
+/// Runs the jobs of a script over the chunks of a grid, one after the other: each over the updates above its line, to its end or to the first
+/// chunk that can't be had, and then the next one. The answer is their lines, in file order. `Memory` where there was none for an update, for a
+/// job, or for its line.
+pub fn run_script<D: Depot>(
+    alloc: Global,
+    depot: &mut D,
+    grid: &str,
+    cat: &Arc<Catalogue>,
+    script: Script,
+) -> Result<Vec<JobLine>, Memory>
+    requires built { is_built script ≡ true }
+    requires over { IsScriptOver (arc_value cat.now).dimensions.n script }
+    ensures lines { IfOk result (λ lines. AreLinesOfJobs (λ job outcome. IsTold outcome) (jobs_of script) lines.items) }
+    ensures ends { (bytes : List ℕ) → TellsGrid (D.files depot.old) grid.now (arc_value cat.now) bytes
+        → IfOk result (λ lines. RunOver (arc_value cat.now) (edges_in bytes) (depot_change ⟦<D as Depot>⟧ depot.old depot.new) (jobs_of script) lines.items) }
+    ensures few { (bytes : List ℕ) → TellsGrid (D.files depot.old) grid.now (arc_value cat.now) bytes
+        → D.reads depot.new ≤ D.reads depot.old + runs_weight (arc_value cat.now) (edges_in bytes) (jobs_of script) }
+    ensures faults { IfOk result (λ lines. FaultsOf lines.items (D.faults depot.old) (D.faults depot.new)) }
+    ensures frame { ReadsSome (depot_change ⟦<D as Depot>⟧ depot.old depot.new) }
+{
+    let mut versions = Versions::new(alloc);
+    let mut fetcher = Fetcher::new(alloc);
+    let mut lines = Vec::new(alloc);
+    for entry in script.into_lines() {
+        match entry {
+            Line::Job {
+                name,
+                spec,
+                own: _own,
+            } => {
+                let number = lines.len() as u32;
+                let job = Job { number, name, spec };
+                let cat = cat.clone()?;
+                let line = run_line(alloc, &mut fetcher, depot, grid, cat, &versions, job)?;
+                lines.push(line)?;
+            }
+            Line::Update { batch } => versions.update(cat, batch.as_slice())?,
+            Line::Wait { .. } => {}
+        }
+    }
+    Ok(lines)
+}

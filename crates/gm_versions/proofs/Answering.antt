@@ -1,0 +1,180 @@
+-- What the histories answer for a version, and what the next update does to them.
+use Rattle.std.proofs.Common.{◌≡◌, ℕ, zero, suc, ◌+◌, ◌<◌, ◌≤◌, ◌||◌, eqb, List, [], ◌∷◌, ◌++◌, length, inl, inr, sym, ap, ◌∙◌, refl, subst, arith}
+use Rattle.std.specs.List.{fold, filter, All}
+use Rattle.std.proofs.lemmas.Bool.{cases_lt}
+use Rattle.std.proofs.lemmas.List.{get_or_append_left, get_or_push, length_push}
+use Rattle.std.proofs.lemmas.List.Folds.{list_any-append}
+use Rattle.std.proofs.lemmas.List.Elements.{All-from_recursion, recursion_from_All, All-same, All-append}
+use Rattle.gm_base.specs.declared.edge.Edge.{Edge}
+use Rattle.gm_base.specs.declared.edge.Key.{Key}
+use Rattle.gm_base.specs.declared.edge.Tag.{Tag}
+use Rattle.gm_base.specs.declared.edge.Tag.TheVariants.{Update, Own}
+use Rattle.gm_changes.specs.declared.change.Change.{Change}
+use Rattle.gm_changes.specs.Changes.{ChangesWithin, edges_after}
+use Rattle.gm_changes.specs.Concerns.{lists, may_concern, IsPlaced}
+use Rattle.gm_changes.specs.ConcernsRules.{left_out_by_block}
+use Rattle.gm_label.specs.Catalogues.{Catalogue, sources_at, base_at, IsOver}
+use Rattle.gm_versions.specs.declared.histories.Histories.{Histories}
+use Rattle.gm_versions.specs.declared.versions.Versions.{Versions}
+use Rattle.gm_versions.specs.Lists.{joined}
+use Rattle.gm_versions.specs.Views.{site_at, concerning_at, sources_at_after, concerning_next, added_at_after, content_after, changes_up_to, last_update, Sight, changes_of_tag, content_of, IsUpdateUpTo, IsVersionKey, update_of}
+use Rattle.gm_versions.specs.ViewsRules.{update_at, concerning-up_to_last, base-placed}
+use Rattle.gm_versions.specs.Histories.{History, last_of, up_to, with_update, history_of, with_change}
+use Rattle.gm_versions.specs.Kept.{history_in, IsLogged, IsKeptBefore, AreNotedFor, IsOf}
+use Rattle.gm_versions.proofs.HistorySteps.{or-commuted, history-up_to, history-now, history-last, history-added, history-lists, history-noted}
+
+-- a chunk's history at a version
+pub at_version : (cat : Catalogue) (versions : Versions) (version c : ℕ) → IsOf cat versions → version ≤ length versions.batches → c < length cat.places
+    → up_to version (history_in versions.histories c) ≡ history_of cat c versions.batches version
+at_version cat versions version c is small within =
+    ap (up_to version) (is.each c within) ∙ history-up_to cat c versions.batches version (length versions.batches) small
+
+pub last-answered : (cat : Catalogue) (versions : Versions) (version c : ℕ) → IsOf cat versions → version ≤ length versions.batches → c < length cat.places
+    → last_of (up_to version (history_in versions.histories c)).updates ≡ last_update cat versions.batches c version
+last-answered cat versions version c is small within =
+    ap (λ (h : History). last_of h.updates) (at_version cat versions version c is small within) ∙ history-last cat c versions.batches version
+
+pub source-answered : (cat : Catalogue) (versions : Versions) (version c source : ℕ) → IsOf cat versions → version ≤ length versions.batches → c < length cat.places
+    → (lists (sources_at cat c) source || lists (joined (up_to version (history_in versions.histories c)).added) source)
+    ≡ lists (sources_at_after cat c (changes_up_to versions.batches version)) source
+source-answered cat versions version c source is small within =
+    let told = λ (h : History). lists (joined h.added) source in
+    ap (λ (h : History). lists (sources_at cat c) source || told h) (at_version cat versions version c is small within)
+    ∙ or-commuted (lists (sources_at cat c) source) (told (history_of cat c versions.batches version))
+    ∙ sym (list_any-append (λ (s : ℕ). eqb s source) (joined (history_of cat c versions.batches version).added) (sources_at cat c))
+    ∙ sym (history-lists cat c versions.batches version source)
+
+-- later updates leave the changes before them as they are
+changes-before : (updates more : List (List Change)) (version : ℕ) → version ≤ length updates → changes_up_to (updates ++ more) version ≡ changes_up_to updates version
+changes-before updates more zero small = refl
+changes-before updates more (suc version) small =
+    ap (λ (cs : List Change). cs ++ update_at (updates ++ more) version) (changes-before updates more version (omega arith))
+    ∙ ap (λ (batch : List Change). changes_up_to updates version ++ batch) (get_or_append_left updates more [] version (omega arith))
+
+history-before : (cat : Catalogue) (c : ℕ) (updates more : List (List Change)) (version : ℕ) → version ≤ length updates
+    → history_of cat c (updates ++ more) version ≡ history_of cat c updates version
+history-before cat c updates more zero small = refl
+history-before cat c updates more (suc version) small =
+    ap (λ (h : History). with_update (suc version) (concerning_next cat c (changes_up_to (updates ++ more) version) (update_at (updates ++ more) version)) h) (history-before cat c updates more version (omega arith))
+    ∙ ap (λ (cs : List Change). with_update (suc version) (concerning_next cat c cs (update_at (updates ++ more) version)) (history_of cat c updates version)) (changes-before updates more version (omega arith))
+    ∙ ap (λ (batch : List Change). with_update (suc version) (concerning_next cat c (changes_up_to updates version) batch) (history_of cat c updates version)) (get_or_append_left updates more [] version (omega arith))
+
+history-next : (cat : Catalogue) (c : ℕ) (updates : List (List Change)) (batch : List Change)
+    → fold (with_change cat c (length updates + 1)) (history_of cat c updates (length updates)) batch ≡ history_of cat c (updates ++ batch ∷ []) (length (updates ++ batch ∷ []))
+history-next cat c updates batch =
+    let n = length updates in
+    let more = updates ++ batch ∷ [] in
+    let next : n + 1 ≡ suc n = omega arith in
+    let long : suc n ≡ length more = omega (arith, length_push updates batch) in
+    let newest : update_at more n ≡ batch = get_or_push updates batch [] n refl in
+    ap (λ (k : ℕ). fold (with_change cat c k) (history_of cat c updates n) batch) next
+    ∙ history-noted cat c updates n batch
+    ∙ sym (ap (λ (h : History). with_update (suc n) (concerning_next cat c (changes_up_to more n) (update_at more n)) h) (history-before cat c updates (batch ∷ []) n (omega arith))
+    ∙ ap (λ (cs : List Change). with_update (suc n) (concerning_next cat c cs (update_at more n)) (history_of cat c updates n)) (changes-before updates (batch ∷ []) n (omega arith))
+    ∙ ap (λ (b : List Change). with_update (suc n) (concerning_next cat c (changes_up_to updates n) b) (history_of cat c updates n)) newest)
+    ∙ ap (history_of cat c more) long
+
+-- the ends of a further update's changes are vertices too
+ends-next : (n : ℕ) (updates more : List (List Change)) (batch : List Change) → more ≡ updates ++ batch ∷ []
+    → ((version : ℕ) → version ≤ length updates → All (ChangesWithin n) (changes_up_to updates version)) → All (ChangesWithin n) batch
+    → (version : ℕ) → version ≤ length more → All (ChangesWithin n) (changes_up_to more version)
+ends-next n updates more batch is ends last version small =
+    let In = ChangesWithin n in
+    let long = length_push updates batch in
+    let longer = ap length is in
+    let now = updates ++ batch ∷ [] in
+    let P : List (List Change) → Type 0 = λ us. All In (changes_up_to us version) in
+    let there : P now = elim (cases_lt (length updates) version) as (λ _. P now) [
+      | inr within ↦ All-same In (changes_up_to now version) (changes_up_to updates version) (changes-before updates (batch ∷ []) version within) (ends version within)
+      | inl behind ↦
+          let at : version ≡ suc (length updates) = omega arith in
+          let newest : update_at now (length updates) ≡ batch = get_or_push updates batch [] (length updates) refl in
+          let whole : changes_up_to now version ≡ changes_up_to updates (length updates) ++ batch =
+          ap (changes_up_to now) at
+          ∙ ap (λ (cs : List Change). cs ++ update_at now (length updates)) (changes-before updates (batch ∷ []) (length updates) (omega arith))
+          ∙ ap (λ (b : List Change). changes_up_to updates (length updates) ++ b) newest in
+          All-same In (changes_up_to now version) (changes_up_to updates (length updates) ++ batch) whole
+          (All-append In (changes_up_to updates (length updates)) batch (ends (length updates) (omega arith)) last)
+    ] in
+    subst P (sym is) there
+
+-- an update that was noted is kept
+pub kept-next : (cat : Catalogue) (old new : Versions) (noted : Histories) (batch : List Change) → IsOf cat old → AreNotedFor cat (length old.batches + 1) batch old.histories noted
+    → All (ChangesWithin cat.dimensions.n) batch
+    → ((q : ℕ) → history_in new.histories q ≡ history_in noted q) → new.batches ≡ old.batches ++ batch ∷ [] → IsOf cat new
+kept-next cat old new noted batch is are within_n closed more = record {
+  each = λ c within.
+      closed c ∙ are.each c within
+      ∙ ap (λ (h : History). fold (with_change cat c (length old.batches + 1)) h batch) (is.each c within)
+      ∙ history-next cat c old.batches batch
+      ∙ ap (λ (updates : List (List Change)). history_of cat c updates (length updates)) (sym more);
+  beyond = λ c past. closed c ∙ are.beyond c past ∙ is.beyond c past;
+  ends = ends-next cat.dimensions.n old.batches new.batches batch more is.ends within_n;
+}
+
+-- nothing in the histories is later than the last update
+whole : (cat : Catalogue) (versions : Versions) (q : ℕ) → IsOf cat versions → up_to (length versions.batches) (history_in versions.histories q) ≡ history_in versions.histories q
+whole cat versions q is =
+    let n = length versions.batches in
+    elim (cases_lt q (length cat.places)) as (λ _. up_to n (history_in versions.histories q) ≡ history_in versions.histories q) [
+      | inl within ↦ ap (up_to n) (is.each q within) ∙ history-now cat q versions.batches n ∙ sym (is.each q within)
+      | inr past ↦ ap (up_to n) (is.beyond q past) ∙ sym (is.beyond q past)
+    ]
+
+-- an update that was refused leaves nothing
+pub kept-undone : (cat : Catalogue) (old new : Versions) (noted : Histories) (version : ℕ) → version ≡ length old.batches → IsOf cat old
+    → IsKeptBefore (length old.batches + 1) old.histories noted
+    → (IsLogged version noted → (q : ℕ) → history_in new.histories q ≡ up_to version (history_in noted q)) → new.batches ≡ old.batches → IsOf cat new
+kept-undone cat old new noted version at is kept undone same =
+    let later : version < length old.batches + 1 = omega arith in
+    let all : (q : ℕ) → up_to version (history_in old.histories q) ≡ history_in old.histories q =
+    λ q. ap (λ (v : ℕ). up_to v (history_in old.histories q)) at ∙ whole cat old q is in
+    let logged : IsLogged version noted = kept.logged version later (λ q. inr (all q)) in
+    let back : (q : ℕ) → history_in new.histories q ≡ history_in old.histories q = λ q. undone logged q ∙ kept.before q version later ∙ all q in
+    record {
+      each = λ c within. back c ∙ is.each c within ∙ ap (λ (updates : List (List Change)). history_of cat c updates (length updates)) (sym same);
+      beyond = λ c past. back c ∙ is.beyond c past;
+      ends = subst (λ (updates : List (List Change)). (v : ℕ) → v ≤ length updates → All (ChangesWithin cat.dimensions.n) (changes_up_to updates v)) (sym same) is.ends;
+    }
+
+pub update-within : (count : ℕ) (tag : Tag) → IsUpdateUpTo count tag → update_of tag ≤ count
+update-within count (Update t) small = small
+update-within count (Own job) small = absurd small
+
+tag-changes : (updates : List (List Change)) (sight_of : ℕ → Sight) (count : ℕ) (tag : Tag) → IsUpdateUpTo count tag
+    → changes_up_to updates (update_of tag) ≡ changes_of_tag updates sight_of tag
+tag-changes updates sight_of count (Update t) small = refl
+tag-changes updates sight_of count (Own job) small = absurd small
+
+-- the changes up to the last update that concerns a chunk make the chunk's edges those of the version
+pub copied-placed : (cat : Catalogue) (versions : Versions) (version c last : ℕ) (raw : List Edge) → IsOf cat versions → version ≤ length versions.batches → c < length cat.places
+    → last ≡ last_of (up_to version (history_in versions.histories c)).updates → All (IsPlaced cat.dimensions (site_at cat c) (sources_at cat c)) raw
+    → edges_after (filter (may_concern cat.dimensions (site_at cat c)) (changes_up_to versions.batches last)) raw
+    ≡ edges_after (concerning_at cat c (changes_up_to versions.batches version)) raw
+copied-placed cat versions version c last raw is small within told placed =
+    let d = cat.dimensions in
+    let site = site_at cat c in
+    let at : last ≡ last_update cat versions.batches c version = told ∙ last-answered cat versions version c is small within in
+    sym (left_out_by_block d site (sources_at cat c) (changes_up_to versions.batches last) raw (recursion_from_All (IsPlaced d site (sources_at cat c)) raw placed))
+    ∙ ap (λ (t : ℕ). edges_after (concerning_at cat c (changes_up_to versions.batches t)) raw) at
+    ∙ ap (λ (cs : List Change). edges_after cs raw) (concerning-up_to_last cat versions.batches c version)
+
+pub copied-content : (cat : Catalogue) (versions : Versions) (key : Key) (c last : ℕ) (raw edges : List Edge) (sight_of : ℕ → Sight) → IsOf cat versions
+    → IsVersionKey (length versions.batches) c key → c < length cat.places
+    → last ≡ last_of (up_to (update_of key.tag) (history_in versions.histories c)).updates → IsOver cat edges → raw ≡ base_at cat edges c
+    → edges_after (filter (may_concern cat.dimensions (site_at cat c)) (changes_up_to versions.batches last)) raw
+    ≡ content_of cat edges versions.batches sight_of key
+copied-content cat versions key c last raw edges sight_of is names within told over base =
+    let small = names.update in
+    let Placed = IsPlaced cat.dimensions (site_at cat c) (sources_at cat c) in
+    let placed : All Placed raw =
+    subst (λ (xs : List Edge). All Placed xs) (sym base) (All-from_recursion Placed (base_at cat edges c) (base-placed cat edges over c)) in
+    copied-placed cat versions (update_of key.tag) c last raw is (update-within (length versions.batches) key.tag small) within told placed
+    ∙ ap (edges_after (concerning_at cat c (changes_up_to versions.batches (update_of key.tag)))) base
+    ∙ ap (λ (cs : List Change). content_after cat edges cs c) (tag-changes versions.batches sight_of (length versions.batches) key.tag small)
+    ∙ ap (content_after cat edges (changes_of_tag versions.batches sight_of key.tag)) (sym names.chunk)
+
+pub added-answered : (cat : Catalogue) (versions : Versions) (version c : ℕ) → IsOf cat versions → version ≤ length versions.batches → c < length cat.places
+    → joined (up_to version (history_in versions.histories c)).added ≡ added_at_after cat c (changes_up_to versions.batches version)
+added-answered cat versions version c is small within =
+    ap (λ (h : History). joined h.added) (at_version cat versions version c is small within) ∙ history-added cat c versions.batches version

@@ -1,0 +1,7 @@
+pub mod FlatLists
+pub mod HistorySteps
+pub mod FirstPlaces
+pub mod Logging
+pub mod Noting
+pub mod Answering
+pub mod ChangedChunks

@@ -1,0 +1,58 @@
+-- What the histories of chunks stand for.
+use Rattle.std.specs.Prelude.{◌≡◌, ℕ, ◌<◌, ◌≤◌, ◌==◌, ◌⊎◌, true, List, length, fold, unwrap_or, All}
+use Rattle.std.specs.List.{list_any}
+use Rattle.std.specs.Ordering.{nat_cmp}
+use Rattle.std.specs.BTreeMap.{get}
+use Rattle.gm_base.specs.declared.edge.Edge.{Edge}
+use Rattle.gm_base.specs.declared.edge.Key.{Key}
+use Rattle.gm_base.specs.declared.edge.ChunkCopy.{ChunkCopy}
+use Rattle.gm_changes.specs.declared.change.Change.{Change}
+use Rattle.gm_changes.specs.Changes.{ChangesWithin, edges_after}
+use Rattle.gm_changes.specs.Concerns.{IsPlaced}
+use Rattle.gm_label.specs.Catalogues.{Catalogue, sources_at, base_at, IsOver}
+use Rattle.gm_versions.specs.declared.histories.Histories.{Histories}
+use Rattle.gm_versions.specs.declared.versions.Versions.{Versions}
+use Rattle.gm_versions.specs.Views.{site_at, concerning_at, changes_up_to, Sight, content_of, update_of}
+use Rattle.gm_versions.specs.Histories.{History, no_history, last_of, up_to, history_of, with_change}
+
+-- a chunk's history
+abbrev pub history_in : Histories → ℕ → History
+history_in h c = unwrap_or (get nat_cmp h.changed c) no_history
+
+-- each chunk that an update after this version concerns is among those that were touched
+abbrev pub IsLogged : ℕ → Histories → Type 0
+IsLogged version h = (q : ℕ) → (list_any (λ c. c == q) h.touched.items ≡ true) ⊎ (up_to version (history_in h q) ≡ history_in h q)
+
+-- a chunk is among those that were touched, or the update concerned it before
+abbrev pub IsLoggedAt : ℕ → ℕ → Histories → Type 0
+IsLoggedAt number chunk h = (list_any (λ c. c == chunk) h.touched.items ≡ true) ⊎ (number ≤ last_of (history_in h chunk).updates)
+
+-- what was there before an update is as it was, and what the update did can be taken back
+pub record IsKeptBefore (number : ℕ) (old new : Histories) : Type 0 where
+  pub before : (q version : ℕ) → version < number → up_to version (history_in new q) ≡ up_to version (history_in old q)
+  pub logged : (version : ℕ) → version < number → IsLogged version old → IsLogged version new
+
+-- one change more of an update was noted for each chunk that it concerns
+pub record IsNotedFor (cat : Catalogue) (number : ℕ) (change : Change) (old new : Histories) : Type 0 where
+  pub each : (q : ℕ) → q < length cat.places → history_in new q ≡ with_change cat q number (history_in old q) change
+  pub beyond : (q : ℕ) → length cat.places ≤ q → history_in new q ≡ history_in old q
+
+-- and all changes of an update
+pub record AreNotedFor (cat : Catalogue) (number : ℕ) (batch : List Change) (old new : Histories) : Type 0 where
+  pub each : (q : ℕ) → q < length cat.places → history_in new q ≡ fold (with_change cat q number) (history_in old q) batch
+  pub beyond : (q : ℕ) → length cat.places ≤ q → history_in new q ≡ history_in old q
+
+-- over this catalogue the histories are those of the updates, and the ends of their changes are vertices
+pub record IsOf (cat : Catalogue) (versions : Versions) : Type 0 where
+  pub each : (c : ℕ) → c < length cat.places → history_in versions.histories c ≡ history_of cat c versions.batches (length versions.batches)
+  pub beyond : (c : ℕ) → length cat.places ≤ c → history_in versions.histories c ≡ no_history
+  pub ends : (version : ℕ) → version ≤ length versions.batches → All (ChangesWithin cat.dimensions.n) (changes_up_to versions.batches version)
+
+-- a key's copy of a chunk. Of edges that are placed in the chunk it has what the changes that concern the chunk make of them; of the
+-- chunk's edges in the grid it has the content
+pub record IsCopy (cat : Catalogue) (versions : Versions) (c : ℕ) (edges : List Edge) (key : Key) (copy : ChunkCopy) : Type 0 where
+  pub of_key : copy.key ≡ key
+  pub changed : All (IsPlaced cat.dimensions (site_at cat c) (sources_at cat c)) edges
+      → copy.edges ≡ edges_after (concerning_at cat c (changes_up_to versions.batches (update_of key.tag))) edges
+  pub content : (grid : List Edge) (sight_of : ℕ → Sight) → IsOver cat grid → edges ≡ base_at cat grid c
+      → copy.edges ≡ content_of cat grid versions.batches sight_of key

@@ -1,0 +1,229 @@
+//! Versions of a grid.
+
+ghost use Rattle.std.specs.Prelude.{◌≡◌, ◌+◌, ◌<◌, ◌≤◌, [], ◌∷◌, ◌++◌, length, All, IfOk, OnOk, OnErr};
+ghost use Rattle.std.specs.List.{filter};
+ghost use Rattle.gm_base.specs.declared.limits.TheConstants.{MAX_CHANGES};
+ghost use Rattle.gm_changes.specs.Changes.{ChangesWithin, edges_after};
+ghost use Rattle.gm_changes.specs.Concerns.{lists, concerns, may_concern};
+ghost use Rattle.gm_label.specs.Catalogues.{Catalogue as Known};
+ghost use Rattle.gm_label.specs.Overlays.{AreOverlays};
+ghost use Rattle.gm_versions.specs.Views.{site_at, sources_at_after, added_at_after, changes_up_to, sight_of_version, key_of, overlays_of, IsVersionKey, update_of};
+ghost use Rattle.gm_versions.specs.Kept.{IsOf, IsKeptBefore, AreNotedFor, IsCopy};
+
+use crate::batches::Batches;
+use crate::histories::Histories;
+use gm_base::{ChunkCopy, Edge, Edges, Key, Memory, Tag};
+use gm_changes::{Change, Changes, apply, gather};
+use gm_label::{Catalogue, Overlays, Raw};
+use std::alloc::Global;
+
+/// The updates of a grid, each a list of changes, and for each chunk that some of them concern which they are and which sources
+/// they added there. Nothing is kept of chunks that no update concerns.
+#[derive(Drop)]
+pub struct Versions {
+    batches: Batches,
+    histories: Histories,
+}
+
+/// Adds the changes of the next update, and notes for each chunk which of them concern it.
+fn add_batch(
+    batches: &mut Batches,
+    histories: &mut Histories,
+    cat: &Catalogue,
+    batch: &[Change],
+) -> Result<(), Memory>
+    requires few { length batches.old < MAX_CHANGES }
+    requires ends { All (ChangesWithin cat.now.dimensions.n) batch.now }
+    ensures noted { OnOk result (AreNotedFor cat.now (length batches.old + 1) batch.now histories.old histories.new) }
+    ensures kept { IsKeptBefore (length batches.old + 1) histories.old histories.new }
+    ensures ok { OnOk result (batches.new ≡ batches.old ++ batch.now ∷ []) }
+    ensures err { OnErr result (batches.new ≡ batches.old) }
+{
+    let number = batches.len() + 1;
+    histories.note_all(cat, number, batch)?;
+    batches.push(batch)
+}
+
+/// The number of a tag's update.
+fn update_of(tag: Tag) -> u32
+    ensures { result ≡ update_of tag }
+{
+    match tag {
+        Tag::Update(update) => update,
+        Tag::Own(_) => 0,
+    }
+}
+
+impl Versions {
+    /// No updates yet.
+    pub fn new(alloc: Global) -> Versions
+        ensures batches { result.batches ≡ [] }
+        ensures catalogue { (cat : Known) → IsOf cat result }
+    {
+        Versions {
+            batches: Batches::new(alloc),
+            histories: Histories::new(alloc),
+        }
+    }
+
+    /// How many updates there are.
+    pub fn count(&self) -> u32
+        ensures value { result ≡ length self.now.batches }
+        ensures few { result ≤ MAX_CHANGES }
+    {
+        self.batches.len()
+    }
+
+    /// Adds the next update. A refusal leaves all updates as they were.
+    pub fn update(&mut self, cat: &Catalogue, batch: &[Change]) -> Result<(), Memory>
+        requires catalogue { IsOf cat.now self.old }
+        requires few { length self.old.batches < MAX_CHANGES }
+        requires ends { All (ChangesWithin cat.now.dimensions.n) batch.now }
+        ensures ok { OnOk result (self.new.batches ≡ self.old.batches ++ batch.now ∷ []) }
+        ensures err { OnErr result (self.new.batches ≡ self.old.batches) }
+        ensures catalogue { IsOf cat.now self.new }
+    {
+        let version = self.batches.len();
+        match add_batch(&mut self.batches, &mut self.histories, cat, batch) {
+            Ok(()) => {
+                self.histories.close();
+                Ok(())
+            }
+            Err(refusal) => {
+                self.histories.undo(version);
+                Err(refusal)
+            }
+        }
+    }
+
+    /// A chunk's key in a version: the last update up to the version that concerns the chunk.
+    pub fn key(&self, cat: &Catalogue, version: u32, chunk: u32) -> Key
+        requires catalogue { IsOf cat.now self.now }
+        requires version { version ≤ length self.now.batches }
+        requires chunk { chunk < length cat.now.places }
+        ensures value { result ≡ key_of cat.now self.now.batches (sight_of_version version) chunk }
+        ensures names { IsVersionKey (length self.now.batches) chunk result }
+    {
+        let tag = Tag::Update(self.histories.last_up_to(version, chunk));
+        Key { chunk, tag }
+    }
+
+    /// Whether a source stands in a chunk's label, or was added to the chunk by an update up to a version.
+    pub fn has_source(&self, cat: &Catalogue, version: u32, chunk: u32, source: u32) -> bool
+        requires catalogue { IsOf cat.now self.now }
+        requires version { version ≤ length self.now.batches }
+        requires chunk { chunk < length cat.now.places }
+        ensures { result ≡ lists (sources_at_after cat.now chunk (changes_up_to self.now.batches version)) source }
+    {
+        cat.lists(chunk, source) || self.histories.has_added(version, chunk, source)
+    }
+
+    /// The sources that the updates up to a version added to a chunk, in their order.
+    pub fn added(&self, cat: &Catalogue, version: u32, chunk: u32) -> &[u32]
+        requires catalogue { IsOf cat.now self.now }
+        requires version { version ≤ length self.now.batches }
+        requires chunk { chunk < length cat.now.places }
+        ensures { result.now ≡ added_at_after cat.now chunk (changes_up_to self.now.batches version) }
+    {
+        self.histories.added_up_to(version, chunk)
+    }
+
+    /// The changes of the updates up to a version, in order.
+    pub fn changes(&self, version: u32) -> &[Change]
+        requires { version ≤ length self.now.batches }
+        ensures { result.now ≡ changes_up_to self.now.batches version }
+    {
+        self.batches.up_to(version)
+    }
+
+    /// Whether a change that comes next after the updates up to a version concerns a chunk.
+    pub fn concerns(&self, cat: &Catalogue, version: u32, chunk: u32, change: Change) -> bool
+        requires catalogue { IsOf cat.now self.now }
+        requires version { version ≤ length self.now.batches }
+        requires chunk { chunk < length cat.now.places }
+        requires ends { ChangesWithin cat.now.dimensions.n change }
+        ensures { result ≡ concerns cat.now.dimensions (site_at cat.now chunk) (sources_at_after cat.now chunk (changes_up_to self.now.batches version)) change }
+    {
+        let here = cat.chunk(chunk).block;
+        match change {
+            Change::Add(edge) => cat.is_last(chunk) && cat.shape().block_of(&edge) == here,
+            Change::Cut { from, to } => {
+                let weight = 0;
+                cat.shape().block_of(&Edge { from, to, weight }) == here
+                    && self.has_source(cat, version, chunk, from)
+            }
+        }
+    }
+
+    /// Makes the changes of the updates up to a version that concern a chunk, in one walk over its edges.
+    fn change(
+        &self,
+        alloc: Global,
+        cat: &Catalogue,
+        version: u32,
+        chunk: u32,
+        edges: &mut Edges,
+    ) -> Result<(), Memory>
+        requires version { version ≤ length self.now.batches }
+        requires chunk { chunk < length cat.now.places }
+        ensures { OnOk result (edges.new ≡ edges_after (filter (may_concern cat.now.dimensions (site_at cat.now chunk)) (changes_up_to self.now.batches version)) edges.old) }
+    {
+        let block = cat.chunk(chunk).block;
+        let last = cat.is_last(chunk);
+        let mut near = Changes::new(alloc);
+        gather(self.changes(version), cat.shape(), block, last, &mut near)?;
+        apply(alloc, near.as_slice(), edges)
+    }
+
+    /// The copy of a chunk for all jobs of a key that isn't a job's own. It takes over the chunk's edges as they were read from the
+    /// grid; where no update concerns the chunk they are passed on untouched.
+    pub fn into_copy(
+        &self,
+        alloc: Global,
+        cat: &Catalogue,
+        raw: Raw,
+        key: Key,
+    ) -> Result<ChunkCopy, Memory>
+        requires catalogue { IsOf cat.now self.now }
+        requires chunk { raw.chunk < length cat.now.places }
+        requires key { IsVersionKey (length self.now.batches) raw.chunk key }
+        ensures { IfOk result (IsCopy cat.now self.now raw.chunk raw.edges key) }
+    {
+        let Raw { chunk, mut edges } = raw;
+        let last = self.histories.last_up_to(update_of(key.tag), chunk);
+        self.change(alloc, cat, last, chunk, &mut edges)?;
+        Ok(ChunkCopy { key, edges })
+    }
+
+    /// The same, of edges that are used further: they are copied first.
+    pub fn copy(
+        &self,
+        alloc: Global,
+        cat: &Catalogue,
+        raw: &Raw,
+        key: &Key,
+    ) -> Result<ChunkCopy, Memory>
+        requires catalogue { IsOf cat.now self.now }
+        requires chunk { raw.now.chunk < length cat.now.places }
+        requires key { IsVersionKey (length self.now.batches) raw.now.chunk key.now }
+        ensures { IfOk result (IsCopy cat.now self.now raw.now.chunk raw.now.edges key.now) }
+    {
+        let edges = Vec::from_slice(alloc, raw.edges.as_slice())?;
+        let copied = Raw {
+            chunk: raw.chunk,
+            edges: Edges::from_vec(edges),
+        };
+        self.into_copy(alloc, cat, copied, *key)
+    }
+
+    /// What a version sees of each chunk that an update up to the version concerns, ascending: the chunk's key and the sources that
+    /// were added to its label. Other chunks aren't looked at.
+    pub fn overlays(&self, alloc: Global, cat: &Catalogue, version: u32) -> Result<Overlays, Memory>
+        requires catalogue { IsOf cat.now self.now }
+        requires version { version ≤ length self.now.batches }
+        ensures value { IfOk result (λ overlays. overlays ≡ overlays_of cat.now self.now.batches (sight_of_version version)) }
+        ensures fit { IfOk result (AreOverlays cat.now) }
+    {
+        self.histories.overlays(alloc, version)
+    }
+}
