@@ -12,7 +12,7 @@ use Rattle.gm_jobs.specs.JobsErrors.{text_of as why_text}
 use Rattle.gm_commands.specs.declared.failure.Operand.{Operand}
 use Rattle.gm_commands.specs.declared.failure.Operand.TheVariants.{Edges, Grid as TheGrid, Jobs}
 use Rattle.gm_commands.specs.declared.failure.Refusal.{Refusal}
-use Rattle.gm_commands.specs.declared.failure.Refusal.TheVariants.{Missing, Grid, EdgeList, JobText, NotBuiltYet}
+use Rattle.gm_commands.specs.declared.failure.Refusal.TheVariants.{Missing, Grid, EdgeList, JobText}
 use Rattle.gm_commands.specs.declared.failure.Failure.{Failure}
 use Rattle.gm_commands.specs.declared.failure.Failure.TheVariants.{Refused, ReadFailed, WriteFailed, OutputFailed, OutOfMemory}
 
@@ -21,7 +21,6 @@ refusal_status (Missing operand) = 3
 refusal_status (Grid error) = 4
 refusal_status (EdgeList refusal) = 4
 refusal_status (JobText refusal) = 5
-refusal_status NotBuiltYet = 5
 
 abbrev pub status_of : Failure → ℕ
 status_of (Refused refusal) = refusal_status refusal
@@ -41,7 +40,6 @@ refused_operand (Missing operand) = operand
 refused_operand (Grid error) = TheGrid
 refused_operand (EdgeList refusal) = Edges
 refused_operand (JobText refusal) = Jobs
-refused_operand NotBuiltYet = Jobs
 
 -- the file that the line names, if it names one
 abbrev pub operand_of : Failure → Option Operand
@@ -82,7 +80,6 @@ refusal_text (Missing operand) = codes "no such file"
 refusal_text (Grid error) = grid_error_text error
 refusal_text (EdgeList refusal) = edge_list_text refusal
 refusal_text (JobText refusal) = job_text_text refusal
-refusal_text NotBuiltYet = codes "not built yet"
 
 -- what the line says behind the names
 unfoldable pub text_of : Failure → List ℕ

@@ -28,8 +28,6 @@ pub enum Refusal {
     EdgeList(EdgeListRefusal),
     /// The jobs' file is no job text.
     JobText(JobsRefusal),
-    /// The jobs' file has an update, or a job with changes of its own, which aren't built yet.
-    NotBuiltYet,
 }
 
 impl Refusal {
@@ -43,7 +41,7 @@ impl Refusal {
         match self {
             Refusal::Missing(_) => 3,
             Refusal::Grid(_) | Refusal::EdgeList(_) => 4,
-            Refusal::JobText(_) | Refusal::NotBuiltYet => 5,
+            Refusal::JobText(_) => 5,
         }
     }
 
@@ -55,7 +53,7 @@ impl Refusal {
             Refusal::Missing(operand) => operand,
             Refusal::Grid(_) => Operand::Grid,
             Refusal::EdgeList(_) => Operand::Edges,
-            Refusal::JobText(_) | Refusal::NotBuiltYet => Operand::Jobs,
+            Refusal::JobText(_) => Operand::Jobs,
         }
     }
 }

@@ -98,7 +98,6 @@ fn refusal_text(refusal: Refusal) -> Line
         Refusal::Grid(error) => grid_error_text(error),
         Refusal::EdgeList(refusal) => edge_list_text(refusal),
         Refusal::JobText(refusal) => job_text_text(refusal),
-        Refusal::NotBuiltYet => plain_text(b"not built yet"),
     }
 }
 

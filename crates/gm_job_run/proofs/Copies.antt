@@ -1,15 +1,13 @@
 -- The copy of a chunk that a job sees.
-use Rattle.std.specs.Prelude.{◌≡◌, ◌==◌, ℕ, ◌<◌, ◌≤◌, true, List, [], ◌∷◌, length, All, refl}
+use Rattle.std.specs.Prelude.{◌≡◌, ◌==◌, ℕ, ◌<◌, true, List, [], ◌∷◌, length, All, refl}
 use Rattle.std.specs.List.{list_any}
-use Rattle.std.proofs.Common.{Bool, false, cond, eqb, sym, ap, ◌∙◌, subst, arith}
+use Rattle.std.proofs.Common.{Bool, false, cond, eqb, sym, ap, ◌∙◌, subst}
 use Rattle.std.proofs.lemmas.Bool.{eqb-true}
 use Rattle.std.specs.List.{AllByRecursion}
 use Rattle.std.proofs.lemmas.List.Elements.{All-weaker, All-from_recursion, recursion_from_All}
 use Rattle.gm_base.specs.declared.edge.ChunkCopy.{ChunkCopy}
 use Rattle.gm_base.specs.declared.edge.Edge.{Edge}
 use Rattle.gm_base.specs.declared.edge.Key.{Key}
-use Rattle.gm_base.specs.declared.edge.Tag.{Tag}
-use Rattle.gm_base.specs.declared.edge.Tag.TheVariants.{Update, Own}
 use Rattle.gm_base.specs.Graph.{HasEndsBelow}
 use Rattle.gm_changes.specs.Concerns.{IsPlaced}
 use Rattle.gm_label.specs.declared.chunk.Overlay.{Overlay}
@@ -19,12 +17,13 @@ use Rattle.gm_label.specs.Labels.{sources_of}
 use Rattle.gm_label.specs.LabelsRules.{label-lists}
 use Rattle.gm_label.specs.Overlays.{key_at}
 use Rattle.gm_source.specs.Fetches.{FitsCatalogue, LiesInChunk}
-use Rattle.gm_versions.specs.Kept.{IsCopy}
 use Rattle.gm_versions.specs.OverlaysRules.{key_at-overlays}
-use Rattle.gm_versions.specs.Views.{IsVersionKey, IsUpdateUpTo, changes_up_to, concerning_at, content_of, last_update, site_at, update_of}
-use Rattle.gm_versions.specs.ViewsRules.{concerning_at-within, edges_after-within, last-le}
+use Rattle.gm_versions.specs.Views.{changes_seen, concerning_at, content_of, key_of, site_at}
+use Rattle.gm_versions.specs.ViewsRules.{concerning_at-within, edges_after-within}
+use Rattle.gm_private.specs.OwnChanges.{IsCopySeen}
 use Rattle.gm_job_run.specs.declared.view.View.{View}
-use Rattle.gm_job_run.specs.SeenViews.{IsViewOf, chunk_seen, overlays_seen, seen_in}
+use Rattle.gm_core.specs.SeenViews.{IsSeenOver, chunk_seen, overlays_seen}
+use Rattle.gm_job_run.specs.SeenViews.{seen_in}
 
 -- a chunk's key is of the chunk
 pub key_at-chunk : (overlays : List Overlay) (c : ℕ) → (key_at overlays c).chunk ≡ c
@@ -35,22 +34,11 @@ key_at-chunk (o ∷ overlays) c = tested o.key (key_at overlays c) c (eqb o.key.
     tested here later c true is rest = eqb-true here.chunk c is
     tested here later c false is rest = rest
 
--- a job without changes of its own has the key of the last update that concerns the chunk
-key_told : (cat : Catalogue) (view : View) (key : Key) → key.chunk < length cat.places → key ≡ key_at (overlays_seen cat (seen_in view)) key.chunk
-    → key ≡ record { chunk = key.chunk; tag = Update (last_update cat view.versions.now.batches key.chunk view.version) }
-key_told cat view key within is = is ∙ key_at-overlays cat view.versions.now.batches (seen_in view).sight key.chunk within
-
-pub version_key : (cat : Catalogue) (view : View) (key : Key) (chunk : ℕ) → IsViewOf cat view → key.chunk < length cat.places
-    → key ≡ key_at (overlays_seen cat (seen_in view)) key.chunk → chunk ≡ key.chunk → IsVersionKey (length view.versions.now.batches) chunk key
-version_key cat view key chunk of within is same =
-    let updates = view.versions.now.batches in
-    let last = last-le cat updates key.chunk view.version in
-    let version = of.version in
-    let few : last_update cat updates key.chunk view.version ≤ length updates = omega (arith, last, version) in
-    record {
-      chunk = sym same;
-      update = subst (λ (k : Key). IsUpdateUpTo (length updates) k.tag) (sym (key_told cat view key within is)) few;
-    }
+-- the key of a chunk by what the job sees, of the chunk that was fetched
+pub key_seen : (cat : Catalogue) (view : View) (key : Key) (chunk : ℕ) → key.chunk < length cat.places → key ≡ key_at (overlays_seen cat (seen_in view)) key.chunk
+    → chunk ≡ key.chunk → key ≡ key_of cat view.versions.now.batches view.own.now chunk
+key_seen cat view key chunk within is same =
+    is ∙ key_at-overlays cat view.versions.now.batches view.own.now key.chunk within ∙ ap (key_of cat view.versions.now.batches view.own.now) (sym same)
 
 both : {X : Type 0} (P Q R : X → Type 0) (xs : List X) → ((x : X) → P x → Q x → R x) → AllByRecursion P xs → AllByRecursion Q xs → AllByRecursion R xs
 both P Q R [] each ps qs = tt
@@ -67,32 +55,21 @@ placed-raw cat raw c fits =
     (recursion_from_All (LiesInChunk cat c) raw.edges fits.placed) (recursion_from_All Listed raw.edges listed))
 
 -- its edges have both ends among the vertices, whatever was fetched
-pub copy_within : (cat : Catalogue) (view : View) (key : Key) (raw : Raw) (copy : ChunkCopy) → IsViewOf cat view → key.chunk < length cat.places
-    → key ≡ key_at (overlays_seen cat (seen_in view)) key.chunk → FitsCatalogue cat key.chunk raw → IsCopy cat view.versions.now raw.chunk raw.edges key copy
-    → All (HasEndsBelow cat.dimensions.n) copy.edges
-copy_within cat view key raw copy of within is fits made =
+pub copy_within : (cat : Catalogue) (view : View) (key : Key) (raw : Raw) (copy : ChunkCopy) → IsSeenOver cat.dimensions.n (seen_in view) → FitsCatalogue cat key.chunk raw
+    → IsCopySeen cat view.versions.now.batches view.own.now raw.chunk raw.edges key copy → All (HasEndsBelow cat.dimensions.n) copy.edges
+copy_within cat view key raw copy over fits made =
     let n = cat.dimensions.n in
-    let versions = view.versions.now in
-    let up_to = update_of key.tag in
-    let few : up_to ≤ length versions.batches = up_to_few (version_key cat view key key.chunk of within is refl) in
-    let made_here = subst (λ (c : ℕ). IsCopy cat versions c raw.edges key copy) fits.number made in
-    let ends = of.versions.ends up_to few in
+    let seen = changes_seen view.versions.now.batches view.own.now in
+    let made_here = subst (λ (c : ℕ). IsCopySeen cat view.versions.now.batches view.own.now c raw.edges key copy) fits.number made in
     subst (All (HasEndsBelow n)) (sym (made_here.changed (placed-raw cat raw key.chunk fits)))
-    (edges_after-within n (concerning_at cat key.chunk (changes_up_to versions.batches up_to)) raw.edges
-    (concerning_at-within cat key.chunk n (changes_up_to versions.batches up_to) ends) (All-weaker (LiesInChunk cat key.chunk) (HasEndsBelow n) (λ e lies. lies.0) raw.edges fits.placed))
-  where
-    up_to_few : IsVersionKey (length view.versions.now.batches) key.chunk key → update_of key.tag ≤ length view.versions.now.batches
-    up_to_few fit = by_tag key.tag fit.update
-      where
-        by_tag : (tag : Tag) → IsUpdateUpTo (length view.versions.now.batches) tag → update_of tag ≤ length view.versions.now.batches
-        by_tag (Update t) few = few
-        by_tag (Own job) few = absurd few
+    (edges_after-within n (concerning_at cat key.chunk seen) raw.edges (concerning_at-within cat key.chunk n seen over.ends)
+    (All-weaker (LiesInChunk cat key.chunk) (HasEndsBelow n) (λ e lies. lies.0) raw.edges fits.placed))
 
 -- .. and where the grid is told they are what the job sees
 pub copy_seen : (cat : Catalogue) (view : View) (key : Key) (raw : Raw) (copy : ChunkCopy) (grid : List Edge)
-    → key ≡ key_at (overlays_seen cat (seen_in view)) key.chunk → raw.chunk ≡ key.chunk → IsCopy cat view.versions.now raw.chunk raw.edges key copy
+    → key ≡ key_at (overlays_seen cat (seen_in view)) key.chunk → raw.chunk ≡ key.chunk
+    → IsCopySeen cat view.versions.now.batches view.own.now raw.chunk raw.edges key copy
     → IsOver cat grid → raw.edges ≡ base_at cat grid key.chunk → copy.edges ≡ chunk_seen cat grid (seen_in view) key.chunk
 copy_seen cat view key raw copy grid is same made over base =
-    let made_here = subst (λ (c : ℕ). IsCopy cat view.versions.now c raw.edges key copy) same made in
-    made_here.content grid (λ _. (seen_in view).sight) over base
-    ∙ ap (content_of cat grid view.versions.now.batches (λ _. (seen_in view).sight)) is
+    let made_here = subst (λ (c : ℕ). IsCopySeen cat view.versions.now.batches view.own.now c raw.edges key copy) same made in
+    made_here.content grid (λ _. view.own.now) over refl base ∙ ap (content_of cat grid view.versions.now.batches (λ _. view.own.now)) is

@@ -11,7 +11,7 @@ use Rattle.gm_work.specs.Views.{JobView}
 use Rattle.gm_work.specs.Weights.{run_weight}
 use Rattle.gm_base.specs.declared.edge.Edge.{Edge}
 use Rattle.gm_base.specs.declared.job.Spec.{Spec}
-use Rattle.gm_job_run.specs.SeenViews.{Seen, seen_view}
+use Rattle.gm_core.specs.SeenViews.{Seen, seen_view}
 use Rattle.gm_job_run.specs.declared.job_run.Stop.{Stop}
 use Rattle.gm_job_run.specs.declared.job_run.Stop.TheVariants.{Read, Changed, Memory}
 use Rattle.gm_job_run.specs.JobRuns.{AfterTurn, HasEnded, IsEnd, JobEnds, FaultsFor, StopFaults, StopsBy, outcome_of_turn, outcome_of_stop}

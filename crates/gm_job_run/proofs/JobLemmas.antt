@@ -19,7 +19,7 @@ use Rattle.gm_work.specs.Entries.Turning.{Goes, Ends}
 use Rattle.gm_work.specs.Views.{JobView, IsCutIntoChunks, Standing, StandingTurn, IsMidRound, needed_in, owed_at, first_standing, with_passed, turn_at, IsTurnedWell}
 use Rattle.gm_work.specs.Views.StandingTurn.{StandsAt, EndsWith}
 use Rattle.gm_work.specs.Weights.{run_weight, weight_left, IsLeftBy}
-use Rattle.gm_job_run.specs.SeenViews.{Seen, chunk_seen}
+use Rattle.gm_core.specs.SeenViews.{Seen, chunk_seen}
 use Rattle.gm_job_run.specs.JobRuns.{IsNeeded, IsUnderWay, IsEnd, StopsBy, OfChunk, IsToldStop, pass_reads, view_over}
 
 -- the laws of gm_work, as its public functions state them

@@ -5,7 +5,5 @@ pub mod Passing
 pub mod Turning
 pub mod Ending
 pub mod Starting
-pub mod SeenGraphs
-pub mod ScriptBounds
 pub mod Copies
 pub mod Scripts

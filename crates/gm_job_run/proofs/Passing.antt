@@ -21,7 +21,7 @@ use Rattle.gm_work.specs.Held.{Held, IsSameJob, known_of}
 use Rattle.gm_work.specs.HeldRules.{same_job-then}
 use Rattle.gm_job_run.specs.declared.job_run.Stop.{Stop}
 use Rattle.gm_job_run.specs.JobRuns.{IsUnderWay, StopsBy, StopFaults, IsOfChunks, ReadsSome, WhereUnderWay, StaysUnderWay, Carries, pass_reads, view_over}
-use Rattle.gm_job_run.specs.SeenViews.{Seen, view_through}
+use Rattle.gm_core.specs.SeenViews.{Seen, view_through}
 
 -- a job was under way, and is, and no call failed
 pub record GoesOn {D : Type 0} (g : Depot.Ghosts D) (old new : D) (name : List ℕ) (seen : Seen) (before after : Held) : Type 0 where

@@ -1,5 +1,5 @@
 -- A script that is run entry by entry.
-use Rattle.std.specs.Prelude.{◌≡◌, ℕ, ◌+◌, ◌≤◌, true, List, [], ◌∷◌, ◌++◌, length}
+use Rattle.std.specs.Prelude.{◌≡◌, ℕ, ◌+◌, ◌≤◌, List, [], ◌∷◌, ◌++◌, length}
 use Rattle.std.proofs.Common.{sym, ap, ◌∙◌, subst}
 use Rattle.std.proofs.lemmas.List.{length-append}
 use Rattle.gm_base.specs.declared.job.JobLine.{JobLine}
@@ -15,55 +15,61 @@ use Rattle.gm_versions.specs.Kept.{IsOf}
 use Rattle.gm_jobs.specs.declared.script.Line.{Line}
 use Rattle.gm_jobs.specs.declared.script.Line.TheVariants as lines
 use Rattle.gm_jobs.specs.JobBounds.{IsScriptOver}
-use Rattle.gm_jobs.specs.StatedJobs.{is_built, jobs_below, jobs_of}
+use Rattle.gm_jobs.specs.StatedJobs.{jobs_below, jobs_of}
 use Rattle.gm_work.specs.Weights.{run_weight}
 use Rattle.gm_job_run.specs.declared.script_run.Job.{Job}
 use Rattle.gm_job_run.specs.JobRuns.{JobEnds, FaultsFor, ReadsSome, pass_reads}
 use Rattle.gm_job_run.specs.JobLines.{job_below, line_of_job, runs_weight, view_of_job}
 use Rattle.gm_job_run.proofs.Listing.{RunSoFar, few_next, none_yet, one_run}
-use Rattle.gm_job_run.proofs.ScriptBounds.{AreBelow, all_below, below_job, below_update, below_wait, built_job}
+use Rattle.gm_core.specs.SeenViews.{IsSeenOver, seen_by}
+use Rattle.gm_core.specs.BelowRules.{AreBelow, all_below, below_job, below_update, below_wait, job_sees}
 
 -- after some entries of a script: their jobs were run, and their updates were made
 pub record ScriptSoFar {D : Type 0} (g : Depot.Ghosts D) (old now : D) (name : List ℕ) (cat : Catalogue) (script rest : List Line) (versions : Versions) (lines : List JobLine) : Type 0 where
   pub run : RunSoFar g old now name cat (jobs_of script) (jobs_below (length lines) versions.batches rest) lines
   pub below : AreBelow cat.dimensions.n (length lines) versions.batches rest
-  pub built : is_built rest ≡ true
   pub of : IsOf cat versions
 
 pub script_begins : {D : Type 0} (g : Depot.Ghosts D) (depot : D) (name : List ℕ) (cat : Catalogue) (script rest : List Line) (versions : Versions) (lines : List JobLine)
-    → rest ≡ script → versions.batches ≡ [] → lines ≡ [] → IsOf cat versions → is_built script ≡ true → IsScriptOver cat.dimensions.n script
+    → rest ≡ script → versions.batches ≡ [] → lines ≡ [] → IsOf cat versions → IsScriptOver cat.dimensions.n script
     → ScriptSoFar g depot depot name cat script rest versions lines
-script_begins g depot name cat script rest versions lines all first none of built over = record {
+script_begins g depot name cat script rest versions lines all first none of over = record {
   run = none_yet g depot name cat (jobs_of script) (jobs_below (length lines) versions.batches rest) lines
       ((λ i. jobs_below (length (none i)) (first i) (all i))) none;
   below =
       subst (λ (entries : List Line). AreBelow cat.dimensions.n (length lines) versions.batches entries) (sym all)
       (subst (λ (above : List (List Change)). AreBelow cat.dimensions.n (length lines) above script) (sym first)
       (subst (λ (ls : List JobLine). AreBelow cat.dimensions.n (length ls) [] script) (sym none) (all_below cat.dimensions.n script over)));
-  built = ap is_built all ∙ built;
   of = of;
 }
 
 -- the next job, as it is stated
-next_job : (versions : Versions) (number : ℕ) (rest more : List Line) (name : List ℕ) (spec : Spec) (own : List Change) → is_built rest ≡ true
-    → rest ≡ lines.Job name spec own ∷ more
-    → jobs_below number versions.batches rest ≡ job_below versions (record { number = number; name = name; spec = spec }) ∷ jobs_below (number + 1) versions.batches more
-next_job versions number rest more name spec own built is =
-    let plain = (built_job name spec own more (ap is_built (sym is) ∙ built)).0 in
-    ap (jobs_below number versions.batches) is
-    ∙ ap (λ (changes : List Change). record { number = number; name = name; spec = spec; above = versions.batches; own = changes } ∷ jobs_below (number + 1) versions.batches more) plain
+next_job : (versions : Versions) (number : ℕ) (rest more : List Line) (name : List ℕ) (spec : Spec) (own : List Change) → rest ≡ lines.Job name spec own ∷ more
+    → jobs_below number versions.batches rest
+    ≡ job_below versions (record { number = number; name = name; spec = spec; own = own }) ∷ jobs_below (number + 1) versions.batches more
+next_job versions number rest more name spec own is = ap (jobs_below number versions.batches) is
+
+-- .. whose changes are among the vertices
+pub script_sees : {D : Type 0} (g : Depot.Ghosts D) (old now : D) (grid : List ℕ) (cat : Catalogue) (script rest more : List Line) (versions : Versions) (done : List JobLine)
+    (name : List ℕ) (spec : Spec) (own : List Change) (job : Job)
+    → ScriptSoFar g old now grid cat script rest versions done → rest ≡ lines.Job name spec own ∷ more
+    → job ≡ record { number = length done; name = name; spec = spec; own = own }
+    → IsSeenOver cat.dimensions.n (seen_by (job_below versions job))
+script_sees g old now grid cat script rest more versions done name spec own job sofar is job_is =
+    subst (λ (j : Job). IsSeenOver cat.dimensions.n (seen_by (job_below versions j))) (sym job_is)
+    (job_sees cat.dimensions.n (length done) versions.batches name spec own more (subst (AreBelow cat.dimensions.n (length done) versions.batches) is sofar.below))
 
 pub script_job : {D : Type 0} (g : Depot.Ghosts D) (old mid new : D) (grid : List ℕ) (cat : Catalogue) (script rest more : List Line) (versions : Versions) (done : List JobLine)
     (name : List ℕ) (spec : Spec) (own : List Change) (job : Job) (line : JobLine)
     → ScriptSoFar g old mid grid cat script rest versions done → rest ≡ lines.Job name spec own ∷ more
-    → job ≡ record { number = length done; name = name; spec = spec }
+    → job ≡ record { number = length done; name = name; spec = spec; own = own }
     → line ≡ line_of_job (job_below versions job) line.outcome
     → ((bytes : List ℕ) → TellsGrid (g.files mid) grid cat bytes → JobEnds (view_of_job cat (edges_in bytes) (job_below versions job)) (pass_reads cat) (depot_change g mid new) line.outcome)
     → ((bytes : List ℕ) → TellsGrid (g.files mid) grid cat bytes → g.reads new ≤ g.reads mid + run_weight (view_of_job cat (edges_in bytes) (job_below versions job)) (pass_reads cat))
     → FaultsFor (g.faults mid) (g.faults new) line.outcome → ReadsSome (depot_change g mid new)
     → ScriptSoFar g old new grid cat script more versions (done ++ line ∷ [])
 script_job g old mid new grid cat script rest more versions done name spec own job line sofar is job_is line_is ends few faults frame =
-    let next = next_job versions (length done) rest more name spec own sofar.built is in
+    let next = next_job versions (length done) rest more name spec own is in
     let here : jobs_below (length done) versions.batches rest ≡ job_below versions job ∷ jobs_below (length done + 1) versions.batches more =
     next ∙ ap (λ (j : Job). job_below versions j ∷ jobs_below (length done + 1) versions.batches more) (sym job_is) in
     let one : length (done ++ line ∷ []) ≡ length done + 1 = length-append done (line ∷ []) in
@@ -73,7 +79,6 @@ script_job g old mid new grid cat script rest more versions done name spec own j
           (one_run g old mid new grid cat (jobs_of script) (jobs_below (length done) versions.batches rest) (jobs_below (length done + 1) versions.batches more) done
           (job_below versions job) line sofar.run here line_is ends few faults frame);
       below = subst (λ (number : ℕ). AreBelow cat.dimensions.n number versions.batches more) (sym one) (below_job cat.dimensions.n (length done) versions.batches name spec own more below);
-      built = (built_job name spec own more (ap is_built (sym is) ∙ sofar.built)).1;
       of = sofar.of;
     }
 
@@ -81,12 +86,12 @@ script_job g old mid new grid cat script rest more versions done name spec own j
 pub script_few : {D : Type 0} (g : Depot.Ghosts D) (old mid new : D) (grid : List ℕ) (cat : Catalogue) (script rest more : List Line) (versions : Versions) (done : List JobLine)
     (name : List ℕ) (spec : Spec) (own : List Change) (job : Job)
     → ScriptSoFar g old mid grid cat script rest versions done → rest ≡ lines.Job name spec own ∷ more
-    → job ≡ record { number = length done; name = name; spec = spec }
+    → job ≡ record { number = length done; name = name; spec = spec; own = own }
     → ((bytes : List ℕ) → TellsGrid (g.files mid) grid cat bytes → g.reads new ≤ g.reads mid + run_weight (view_of_job cat (edges_in bytes) (job_below versions job)) (pass_reads cat))
     → (bytes : List ℕ) → TellsGrid (g.files old) grid cat bytes → g.reads new ≤ g.reads old + runs_weight cat (edges_in bytes) (jobs_of script)
 script_few g old mid new grid cat script rest more versions done name spec own job sofar is job_is few =
     few_next g old mid new grid cat (jobs_of script) (jobs_below (length done) versions.batches rest) (jobs_below (length done + 1) versions.batches more) done (job_below versions job) sofar.run
-    (next_job versions (length done) rest more name spec own sofar.built is ∙ ap (λ (j : Job). job_below versions j ∷ jobs_below (length done + 1) versions.batches more) (sym job_is)) few
+    (next_job versions (length done) rest more name spec own is ∙ ap (λ (j : Job). job_below versions j ∷ jobs_below (length done + 1) versions.batches more) (sym job_is)) few
 
 pub script_update : {D : Type 0} (g : Depot.Ghosts D) (old now : D) (grid : List ℕ) (cat : Catalogue) (script rest more : List Line) (versions next : Versions) (done : List JobLine) (batch : List Change)
     → ScriptSoFar g old now grid cat script rest versions done → rest ≡ lines.Update batch ∷ more
@@ -98,7 +103,6 @@ script_update g old now grid cat script rest more versions next done batch sofar
           (subst (λ (entries : List Line). RunSoFar g old now grid cat (jobs_of script) (jobs_below (length done) versions.batches entries) done) is sofar.run);
       below = subst (λ (above : List (List Change)). AreBelow cat.dimensions.n (length done) above more) (sym made)
           (below_update cat.dimensions.n (length done) versions.batches batch more below);
-      built = ap is_built (sym is) ∙ sofar.built;
       of = of;
     }
 
@@ -107,6 +111,5 @@ pub script_wait : {D : Type 0} (g : Depot.Ghosts D) (old now : D) (grid : List �
 script_wait g old now grid cat script rest more versions done visits sofar is = record {
   run = subst (λ (entries : List Line). RunSoFar g old now grid cat (jobs_of script) (jobs_below (length done) versions.batches entries) done) is sofar.run;
   below = below_wait cat.dimensions.n (length done) versions.batches visits more (subst (AreBelow cat.dimensions.n (length done) versions.batches) is sofar.below);
-  built = ap is_built (sym is) ∙ sofar.built;
   of = sofar.of;
 }

@@ -1,6 +1,7 @@
 -- A job from its admission on.
-use Rattle.std.specs.Prelude.{◌≡◌, ℕ, ◌≤◌, List, Result, Ok, Err, IfOk}
-use Rattle.std.proofs.Common.{ap, ◌∙◌, subst}
+use Rattle.std.specs.Prelude.{◌≡◌, ℕ, ◌≤◌, List, [], ◌∷◌, ◌++◌, length, All, Result, Ok, Err, IfOk}
+use Rattle.std.proofs.Common.{ap, ◌∙◌, subst, arith}
+use Rattle.std.proofs.lemmas.List.Elements.{All-tail}
 use Rattle.gm_base.specs.declared.job.Spec.{Spec}
 use Rattle.gm_outside.specs.declared.traits.Depot as Depot
 use Rattle.gm_grid.specs.GridBytes.{edges_in}
@@ -8,10 +9,17 @@ use Rattle.gm_kernel.specs.Runs.{most_rounds}
 use Rattle.gm_label.specs.declared.chunk.Overlay.{Overlay}
 use Rattle.gm_label.specs.Catalogues.{Catalogue}
 use Rattle.gm_source.specs.Fetches.{TellsGrid}
+use Rattle.gm_changes.specs.Changes.{ChangesWithin}
+use Rattle.gm_versions.specs.declared.versions.Versions.{Versions}
+use Rattle.gm_versions.specs.Kept.{IsOf}
+use Rattle.gm_versions.specs.Views.{changes_up_to}
+use Rattle.gm_private.specs.OwnChanges.{IsSightOver}
 use Rattle.gm_work.specs.Views.{JobView, first_standing}
 use Rattle.gm_work.specs.Weights.{run_weight, weight_left}
 use Rattle.gm_work.specs.Held.{Held, admitted}
-use Rattle.gm_job_run.specs.SeenViews.{Seen, overlays_seen, seen_view}
+use Rattle.gm_core.specs.SeenViews.{IsSeenOver, Seen, overlays_seen, seen_by, seen_view}
+use Rattle.gm_job_run.specs.declared.script_run.Job.{Job}
+use Rattle.gm_job_run.specs.JobLines.{job_below}
 use Rattle.gm_job_run.specs.JobRuns.{WhereUnderWay, pass_reads}
 use Rattle.gm_job_run.proofs.JobLemmas.{Begins, under_way-begins}
 
@@ -31,3 +39,17 @@ where-admitted g depot name h number spec cat overlays seen bytes Holds is sees 
 pub ok_weaker : {X E : Type 0} (P Q : X → Type 0) (r : Result X E) → ((x : X) → P x → Q x) → IfOk r P → IfOk r Q
 ok_weaker P Q (Ok x) each ok = each x ok
 ok_weaker P Q (Err e) each ok = tt
+
+-- behind other changes
+All-behind : {X : Type 0} (P : X → Type 0) (xs ys : List X) → All P (xs ++ ys) → All P ys
+All-behind P [] ys all = all
+All-behind P (x ∷ xs) ys all = All-behind P xs ys (All-tail P x (xs ++ ys) all)
+
+-- a job below all of these updates
+pub sight_over : (cat : Catalogue) (versions : Versions) (job : Job) → IsOf cat versions → IsSeenOver cat.dimensions.n (seen_by (job_below versions job))
+    → IsSightOver cat versions (seen_by (job_below versions job)).sight
+sight_over cat versions job of over = record {
+  versions = of;
+  version = omega arith;
+  ends = All-behind (ChangesWithin cat.dimensions.n) (changes_up_to versions.batches (length versions.batches)) job.own over.ends;
+}

@@ -21,7 +21,8 @@ use Rattle.gm_work.specs.Entries.{Known, Entry, owes_any, phases_left, turned, T
 use Rattle.gm_work.specs.Entries.Turning.{Goes, Ends}
 use Rattle.gm_work.specs.Views.{IsCutIntoChunks}
 use Rattle.gm_work.specs.Held.{Held, knows, known_of, IsSameJob, IsTurned}
-use Rattle.gm_job_run.specs.SeenViews.{Seen, IsSeenOver, Sees, overlays_seen, seen_view, view_through}
+use Rattle.gm_core.specs.SeenViews.{Seen, IsSeenOver, overlays_seen, seen_view, view_through}
+use Rattle.gm_job_run.specs.SeenViews.{Sees}
 use Rattle.gm_job_run.specs.JobRuns.{IsUnderWay, AfterTurn, TurnsFor, Carries, StaysUnderWay, ReadsSome, pass_reads, view_over}
 use Rattle.gm_job_run.proofs.JobLemmas.{Turns, WeightTurns, AfterTurning, under_way-turns}
 use Rattle.gm_work.specs.HeldRules.{same_job-then}

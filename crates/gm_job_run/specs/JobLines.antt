@@ -14,11 +14,11 @@ use Rattle.gm_kernel.specs.Runs.{lone_run}
 use Rattle.gm_work.specs.Views.{JobView}
 use Rattle.gm_work.specs.Weights.{run_weight}
 use Rattle.gm_job_run.specs.JobRuns.{FailsToRead, pass_reads}
-use Rattle.gm_job_run.specs.SeenViews.{seen_by, edges_seen, seen_view}
+use Rattle.gm_core.specs.SeenViews.{seen_by, edges_seen, seen_view}
 
 -- the job, below all of these updates
 abbrev pub job_below : Versions → Job → StatedJob
-job_below versions job = record { number = job.number; name = job.name; spec = job.spec; above = versions.batches; own = [] }
+job_below versions job = record { number = job.number; name = job.name; spec = job.spec; above = versions.batches; own = job.own }
 
 -- the line of a job, whose version is how many updates stand above it
 abbrev pub line_of_job : StatedJob → Outcome → JobLine

@@ -21,7 +21,7 @@ use Rattle.gm_grid.specs.GridBytes.{edges_in}
 use Rattle.gm_source.specs.declared.fetching.FetchError.{FetchError}
 use Rattle.gm_source.specs.declared.fetching.FetchError.TheVariants as fetch
 use Rattle.gm_work.specs.Held.{Held, IsSameJob, knows}
-use Rattle.gm_job_run.specs.SeenViews.{Seen, view_through}
+use Rattle.gm_core.specs.SeenViews.{Seen, view_through}
 use Rattle.gm_job_run.specs.declared.job_run.Stop.{Stop}
 use Rattle.gm_job_run.specs.declared.job_run.Stop.TheVariants.{Read, Changed, Memory}
 

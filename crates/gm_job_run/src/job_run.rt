@@ -11,15 +11,16 @@ ghost use Rattle.gm_grid.specs.GridBytes.{edges_in};
 ghost use Rattle.gm_source.specs.Fetches.{TellsGrid, FitsCatalogue};
 ghost use Rattle.gm_label.specs.Catalogues.{base_at};
 ghost use Rattle.gm_kernel.specs.Runs.{most_rounds};
-ghost use Rattle.gm_job_run.specs.SeenViews.{IsSeenOver, IsViewOf, Sees, chunk_seen, overlays_seen, seen_in, seen_view};
+ghost use Rattle.gm_core.specs.SeenViews.{IsSeenOver, chunk_seen, overlays_seen, seen_view};
+ghost use Rattle.gm_job_run.specs.SeenViews.{IsViewOf, Sees, seen_in};
 ghost use Rattle.gm_active.specs.Bits.{is_in};
 ghost use Rattle.gm_label.specs.Overlays.{key_at};
 ghost use Rattle.gm_work.specs.Entries.{owes_any};
 ghost use Rattle.gm_work.specs.Weights.{run_weight};
 
-use crate::laws::views_are_cut;
 use crate::view::View;
 use gm_base::{ChunkCopy, Key, Memory, Outcome, Spec, Turned};
+use gm_core::laws::views_are_cut;
 use gm_label::{Catalogue, Raw};
 use gm_outside::Depot;
 use gm_source::laws::catalogues_are_over_their_edges;
@@ -100,7 +101,7 @@ fn fetch_copy<D: Depot>(
 {
     catalogues_are_over_their_edges();
     let raw = fetch_edges(fetcher, depot, key.chunk, view.name, cat)?;
-    match view.versions.into_copy(alloc, cat, raw, key) {
+    match view.own.into_copy(alloc, cat, view.versions, raw, key) {
         Ok(copy) => Ok(copy),
         Err(Memory) => Err(Stop::Memory),
     }
@@ -221,8 +222,8 @@ fn outcome_of_turn(turned: Turned, work: Work) -> Outcome
     }
 }
 
-/// Runs a job over the chunks of a grid with the updates above its line, each chunk fetched where it is needed and copied where an update
-/// concerns it, up to the job's end or to the first chunk that can't be had.
+/// Runs a job over the chunks of a grid with the updates above its line and with its own changes, each chunk fetched where it is needed and
+/// changed where some of them concern it, up to the job's end or to the first chunk that can't be had.
 pub(crate) fn run_job<D: Depot>(
     alloc: Global,
     fetcher: &mut Fetcher,
@@ -244,8 +245,8 @@ pub(crate) fn run_job<D: Depot>(
 {
     begins();
     weight_is_left();
-    let overlays = view.versions.overlays(alloc, &cat, view.version)?;
-    let mut work = Work::admit(alloc, view.job, spec, cat, overlays)?;
+    let overlays = view.own.overlays(alloc, &cat, view.versions)?;
+    let mut work = Work::admit(alloc, view.own.job(), spec, cat, overlays)?;
     match make_phases(alloc, fetcher, depot, view, &mut work) {
         Ok(turned) => Ok(outcome_of_turn(turned, work)),
         Err(stop) => outcome_of_stop(work.catalogue(), stop),

@@ -3,7 +3,6 @@
 #![tactic(auto)]
 
 mod job_run;
-pub mod laws;
 mod script_run;
 mod view;
 

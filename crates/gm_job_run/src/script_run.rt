@@ -1,40 +1,44 @@
 //! The jobs of a script over a depot's chunks, one after the other.
 
-ghost use Rattle.std.specs.Prelude.{◌≡◌, ◌≤◌, ◌+◌, ℕ, List, [], true, length, IfOk, MatchResult};
+ghost use Rattle.std.specs.Prelude.{◌≡◌, ◌≤◌, ◌+◌, ℕ, List, [], length, IfOk, MatchResult};
 ghost use Rattle.std.specs.Arc.{arc_value};
 ghost use Rattle.gm_outside.specs.Calls.{depot_change};
 ghost use Rattle.gm_job_run.specs.JobRuns.{pass_reads, JobEnds, FaultsFor, ReadsSome};
 ghost use Rattle.gm_grid.specs.GridBytes.{edges_in};
 ghost use Rattle.gm_jobs.specs.JobBounds.{IsScriptOver};
-ghost use Rattle.gm_jobs.specs.StatedJobs.{is_built, jobs_of};
+ghost use Rattle.gm_jobs.specs.StatedJobs.{jobs_of};
 ghost use Rattle.gm_source.specs.Fetches.{TellsGrid};
 ghost use Rattle.gm_job_run.specs.JobLines.{AreLinesOfJobs, IsTold, RunOver, FaultsOf, job_below, line_of_job, view_of_job, runs_weight};
 ghost use Rattle.gm_kernel.specs.Runs.{most_rounds};
 ghost use Rattle.gm_work.specs.Weights.{run_weight};
 ghost use Rattle.gm_versions.specs.Kept.{IsOf};
-ghost use Rattle.gm_job_run.specs.SeenViews.{IsSeenOver, seen_by};
+ghost use Rattle.gm_core.specs.SeenViews.{IsSeenOver, seen_by};
 
 use crate::job_run::run_job;
 use crate::view::View;
 use gm_base::{JobLine, Memory, Name, Spec};
+use gm_changes::Changes;
 use gm_jobs::{Line, Script};
 use gm_label::Catalogue;
 use gm_outside::Depot;
+use gm_private::Own;
 use gm_source::Fetcher;
 use gm_versions::Versions;
 use std::alloc::Global;
 use std::sync::Arc;
 
-/// A job of a script that has no changes of its own.
+/// A job of a script.
 #[derive(Drop)]
 struct Job {
     /// In file order, from 0.
     number: u32,
     name: Name,
     spec: Spec,
+    /// The changes that it makes to its own view of the graph.
+    own: Changes,
 }
 
-/// The line of a job that is run over the chunks of a grid with all of these updates.
+/// The line of a job that is run over the chunks of a grid with all of these updates and with its own changes.
 fn run_line<D: Depot>(
     alloc: Global,
     fetcher: &mut Fetcher,
@@ -57,11 +61,11 @@ fn run_line<D: Depot>(
     ensures frame { ReadsSome (depot_change ⟦<D as Depot>⟧ depot.old depot.new) }
 {
     let version = versions.count();
+    let own = Own::new(job.number, version, job.own);
     let view = View {
         name: grid,
         versions,
-        job: job.number,
-        version,
+        own: &own,
     };
     let outcome = run_job(alloc, fetcher, depot, &view, cat, job.spec)?;
     Ok(JobLine {
@@ -71,9 +75,9 @@ fn run_line<D: Depot>(
     })
 }
 
-/// Runs the jobs of a script over the chunks of a grid, one after the other: each over the updates above its line, to its end or to the first
-/// chunk that can't be had, and then the next one. The answer is their lines, in file order. `Memory` where there was none for an update, for a
-/// job, or for its line.
+/// Runs the jobs of a script over the chunks of a grid, one after the other: each over the updates above its line and with its own changes, to
+/// its end or to the first chunk that can't be had, and then the next one. The answer is their lines, in file order. `Memory` where there was
+/// none for an update, for a job, or for its line.
 pub fn run_script<D: Depot>(
     alloc: Global,
     depot: &mut D,
@@ -81,7 +85,6 @@ pub fn run_script<D: Depot>(
     cat: &Arc<Catalogue>,
     script: Script,
 ) -> Result<Vec<JobLine>, Memory>
-    requires built { is_built script ≡ true }
     requires over { IsScriptOver (arc_value cat.now).dimensions.n script }
     ensures lines { IfOk result (λ lines. AreLinesOfJobs (λ job outcome. IsTold outcome) (jobs_of script) lines.items) }
     ensures ends { (bytes : List ℕ) → TellsGrid (D.files depot.old) grid.now (arc_value cat.now) bytes
@@ -96,13 +99,14 @@ pub fn run_script<D: Depot>(
     let mut lines = Vec::new(alloc);
     for entry in script.into_lines() {
         match entry {
-            Line::Job {
-                name,
-                spec,
-                own: _own,
-            } => {
+            Line::Job { name, spec, own } => {
                 let number = lines.len() as u32;
-                let job = Job { number, name, spec };
+                let job = Job {
+                    number,
+                    name,
+                    spec,
+                    own,
+                };
                 let cat = cat.clone()?;
                 let line = run_line(alloc, &mut fetcher, depot, grid, cat, &versions, job)?;
                 lines.push(line)?;

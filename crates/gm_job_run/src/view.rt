@@ -1,14 +1,13 @@
 //! What one job sees of a grid's file.
 
+use gm_private::Own;
 use gm_versions::Versions;
 
-/// A grid's file with the updates that a job sees.
+/// A grid's file with the updates so far, and with what a job sees of them and changes itself.
 #[derive(Drop)]
 pub(crate) struct View<'a> {
     pub name: &'a str,
     pub versions: &'a Versions,
-    /// The job's number, in file order.
-    pub job: u32,
-    /// How many of the updates it sees.
-    pub version: u32,
+    /// The job's number, how many of the updates it sees, and its own changes.
+    pub own: &'a Own,
 }

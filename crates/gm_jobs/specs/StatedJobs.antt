@@ -1,6 +1,5 @@
 -- The jobs of a script, each with the updates above its line.
-use Rattle.std.specs.Prelude.{ℕ, ◌+◌, Bool, true, false, if◌then◌else◌, List, [], ◌∷◌, ◌++◌, Option, Some, None, Result, Ok, Err}
-use Rattle.std.specs.List.{list_all}
+use Rattle.std.specs.Prelude.{ℕ, ◌+◌, List, [], ◌∷◌, ◌++◌, Option, Some, None, Result, Ok, Err}
 use Rattle.gm_base.specs.declared.job.Spec.{Spec}
 use Rattle.gm_changes.specs.declared.change.Change.{Change}
 use Rattle.gm_jobs.specs.declared.jobs_error.JobsRefusal.{JobsRefusal}
@@ -34,21 +33,11 @@ updates_of (Job name spec own ∷ more) = updates_of more
 updates_of (Update batch ∷ more) = batch ∷ updates_of more
 updates_of (Wait visits ∷ more) = updates_of more
 
--- an entry that is built: a job's own changes aren't yet
-abbrev pub is_built_line : Line → Bool
-is_built_line (Job name spec []) = true
-is_built_line (Job name spec (change ∷ own)) = false
-is_built_line (Update batch) = true
-is_built_line (Wait visits) = true
-
-abbrev pub is_built : List Line → Bool
-is_built entries = list_all is_built_line entries
-
--- the jobs of what was read, where all of it is built
+-- the jobs of what was read, where it is a script
 abbrev pub jobs_read : Result (List Line) JobsRefusal → Option (List StatedJob)
-jobs_read (Ok entries) = if is_built entries then Some (jobs_of entries) else None
+jobs_read (Ok entries) = Some (jobs_of entries)
 jobs_read (Err refusal) = None
 
--- the jobs that a text over n vertices states, where it is a script all of which is built
+-- the jobs that a text over n vertices states, where it is a script
 abbrev pub stated_jobs : ℕ → List ℕ → Option (List StatedJob)
 stated_jobs n text = jobs_read (script_of n text)

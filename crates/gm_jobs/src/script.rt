@@ -2,7 +2,6 @@
 
 ghost use Rattle.std.specs.Prelude.{◌≡◌, OnOk};
 ghost use Rattle.gm_jobs.specs.Scripts.{is_job, is_update, changed_by};
-ghost use Rattle.gm_jobs.specs.StatedJobs.{is_built_line, is_built};
 
 use gm_base::{Memory, Name, Spec};
 use gm_changes::{Change, Changes};
@@ -38,16 +37,6 @@ impl Line {
         ensures { result ≡ is_update self.now }
     {
         matches!(self, Line::Update { .. })
-    }
-
-    /// Whether it is built: a job's own changes aren't yet.
-    fn is_built(&self) -> bool
-        ensures { result ≡ is_built_line self.now }
-    {
-        match self {
-            Line::Job { own, .. } => own.is_empty(),
-            Line::Update { .. } | Line::Wait { .. } => true,
-        }
     }
 
     /// Adds the change to those of a job or an update.
@@ -90,13 +79,6 @@ impl Script {
         ensures { result.now ≡ self.now }
     {
         self.lines.as_slice()
-    }
-
-    /// Whether all of its entries are built.
-    pub fn is_built(&self) -> bool
-        ensures { result ≡ is_built self.now }
-    {
-        self.lines.iter().all(Line::is_built)
     }
 
     /// The entries as a list of their own, in file order. It takes no memory.

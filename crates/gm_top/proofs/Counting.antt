@@ -7,7 +7,6 @@ use Rattle.gm_outside.specs.Files.{Files}
 use Rattle.gm_outside.specs.Frames.{DepotChange, OnlyReads}
 use Rattle.gm_outside.specs.Causes.{counted, counted_times}
 use Rattle.gm_outside.specs.CausesRules.{counted_times-few}
-use Rattle.gm_grid.specs.Format.{IsGrid, edges_of_grid}
 use Rattle.gm_grid.specs.GridBytes.{edges_in}
 use Rattle.gm_label.specs.Catalogues.{Catalogue}
 use Rattle.gm_source.specs.Openings.{opening_reads}

@@ -1,5 +1,5 @@
 -- What follows from the files that a run loaded.
-use Rattle.std.specs.Prelude.{◌≡◌, ℕ, ◌+◌, ◌≤◌, List, Option, Some, None, IfSome, IsSomeAnd, Ok, Err, All, refl}
+use Rattle.std.specs.Prelude.{◌≡◌, ℕ, ◌+◌, List, Option, Some, None, IfSome, IsSomeAnd, Ok, Err, refl}
 use Rattle.std.specs.FinMap.{get}
 use Rattle.std.proofs.Common.{sym, ap, ◌∙◌, subst}
 use Rattle.gm_outside.specs.declared.traits.Depot as Depot

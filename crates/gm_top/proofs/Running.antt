@@ -1,5 +1,5 @@
 -- What follows from jobs that were run over the grid that was loaded.
-use Rattle.std.specs.Prelude.{◌≡◌, ℕ, suc, ◌+◌, ◌<◌, ◌≤◌, Bool, ◌⊎◌, List, [], ◌∷◌, Option, Some, None, IfSome, Result, Ok, Err, IfOk, All, refl}
+use Rattle.std.specs.Prelude.{◌≡◌, ℕ, suc, ◌+◌, ◌<◌, ◌≤◌, Bool, List, [], ◌∷◌, Option, Some, None, IfSome, Result, Ok, Err, IfOk, All}
 use Rattle.std.proofs.lemmas.List.Elements.{All-head, All-tail}
 use Rattle.std.proofs.Common.{Vec, Global, inl, inr, sym, ap, ◌∙◌, subst, arith}
 use Rattle.gm_base.specs.declared.edge.Edge.{Edge}
@@ -7,7 +7,7 @@ use Rattle.gm_base.specs.declared.limits.TheConstants.{MAX_CHUNKS}
 use Rattle.gm_base.specs.declared.job.JobLine.{JobLine}
 use Rattle.gm_base.specs.declared.job.Spec.{Spec}
 use Rattle.gm_base.specs.declared.job.Outcome.{Outcome}
-use Rattle.gm_base.specs.declared.job.Outcome.TheVariants.{Done, Rounds, Read, Changed, Memory}
+use Rattle.gm_base.specs.declared.job.Outcome.TheVariants.{Rounds}
 use Rattle.gm_base.specs.Graph.{IsGraph}
 use Rattle.gm_kernel.specs.Runs.{lone_run, most_rounds}
 use Rattle.gm_outside.specs.declared.traits.Depot as Depot
@@ -20,10 +20,10 @@ use Rattle.gm_grid.specs.GridBytes.{edges_in}
 use Rattle.gm_label.specs.Catalogues.{Catalogue}
 use Rattle.gm_source.specs.Openings.{IsCatalogueOf, opening_reads}
 use Rattle.gm_source.specs.Fetches.{TellsGrid}
-use Rattle.gm_job_run.specs.JobLines.{line_of_job, AreLinesOfJobs, EndsOver, FaultsOf, IsTold, RunOver, failed_reads, runs_weight}
+use Rattle.gm_job_run.specs.JobLines.{AreLinesOfJobs, EndsOver, FaultsOf, IsTold, RunOver, runs_weight}
 use Rattle.gm_jobs.specs.declared.script.Line.{Line}
 use Rattle.gm_jobs.specs.StatedJobs.{StatedJob, jobs_of}
-use Rattle.gm_job_run.specs.SeenViews.{Seen, IsSeenOver, edges_seen, seen_by}
+use Rattle.gm_core.specs.SeenViews.{Seen, IsSeenOver, edges_seen, seen_by}
 use Rattle.gm_words.specs.Commands.{RunCommand}
 use Rattle.gm_commands.specs.declared.failure.Failure.{Failure}
 use Rattle.gm_commands.specs.Readings.{ReadsFiles}

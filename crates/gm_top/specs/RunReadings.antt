@@ -1,11 +1,11 @@
 -- How a run reads its files: first the grid, and then the jobs.
-use Rattle.std.specs.Prelude.{◌≡◌, ℕ, true, if◌then◌else◌, List, Option, Some, None, Result, Ok, Err}
+use Rattle.std.specs.Prelude.{◌≡◌, ℕ, true, List, Option, Some, None, Result, Ok, Err}
 use Rattle.std.specs.FinMap.{get}
 use Rattle.gm_outside.specs.Files.{Files}
 use Rattle.gm_grid.specs.GridBytes.{shape_in}
 use Rattle.gm_label.specs.Catalogues.{Catalogue}
 use Rattle.gm_source.specs.Openings.{IsCatalogueOf}
-use Rattle.gm_jobs.specs.StatedJobs.{StatedJob, is_built, stated_jobs}
+use Rattle.gm_jobs.specs.StatedJobs.{StatedJob, stated_jobs}
 use Rattle.gm_jobs.specs.declared.jobs_error.JobsRefusal.{JobsRefusal}
 use Rattle.gm_jobs.specs.declared.script.Line.{Line}
 use Rattle.gm_jobs.specs.Scripts.{script_of}
@@ -13,14 +13,14 @@ use Rattle.gm_commands.specs.declared.failure.Operand.TheVariants as operand
 use Rattle.gm_commands.specs.declared.failure.Failure.{Failure}
 use Rattle.gm_commands.specs.declared.failure.Failure.TheVariants.{Refused, ReadFailed, WriteFailed, OutputFailed, OutOfMemory}
 use Rattle.gm_commands.specs.declared.failure.Refusal.{Refusal}
-use Rattle.gm_commands.specs.declared.failure.Refusal.TheVariants.{JobText, NotBuiltYet}
+use Rattle.gm_commands.specs.declared.failure.Refusal.TheVariants.{JobText}
 use Rattle.gm_words.specs.Commands.{RunCommand}
 use Rattle.gm_commands.specs.Readings.{Reading, reading_of_file, reading_then}
 use Rattle.gm_tools.specs.Grids.{grid_reading}
 
--- what was read is refused as a job text first. A script all of whose entries are built is taken
+-- every script is taken
 abbrev pub script_refusal : Result (List Line) JobsRefusal → Option Refusal
-script_refusal (Ok entries) = if is_built entries then None else Some NotBuiltYet
+script_refusal (Ok entries) = None
 script_refusal (Err refusal) = Some (JobText refusal)
 
 -- why this text is refused for a graph of n vertices

@@ -1,10 +1,10 @@
 //! One run: the files, the jobs over the grid's chunks, and the report.
 
-ghost use Rattle.std.specs.Prelude.{◌≡◌, true, ◌+◌, ◌≤◌, ℕ, List, [], ◌∷◌, length, All, Some, None, IfOk, OnOk, IfErr, IfSome, MatchResult};
+ghost use Rattle.std.specs.Prelude.{◌≡◌, ◌+◌, ◌≤◌, ℕ, List, [], ◌∷◌, length, All, Some, None, IfOk, OnOk, IfErr, IfSome, MatchResult};
 ghost use Rattle.std.specs.List.{list_any};
 ghost use Rattle.gm_outside.specs.Calls.{depot_change, sink_change};
 ghost use Rattle.gm_base.specs.declared.limits.TheConstants.{MAX_CHUNKS, MAX_CHUNK_SIZE, MAX_VERTICES};
-ghost use Rattle.gm_jobs.specs.StatedJobs.{is_built, jobs_of, stated_jobs};
+ghost use Rattle.gm_jobs.specs.StatedJobs.{jobs_of, stated_jobs};
 ghost use Rattle.gm_outside.specs.Causes.{counted, counted_times};
 ghost use Rattle.gm_job_run.specs.JobLines.{AreLinesOfJobs, FaultsOf, IsTold, RunOver, runs_weight};
 ghost use Rattle.gm_grid.specs.GridBytes.{edges_in};
@@ -22,8 +22,8 @@ ghost use Rattle.gm_top.specs.RunReadings.{IsRefusalOrMemory, jobs_text_refusal,
 
 use gm_base::{JobLine, Memory, Outcome};
 use gm_commands::{Failure, FileText, Operand, Refusal, read_file};
+use gm_core::laws::{jobs_see_vertices, views_are_graphs};
 use gm_grid::laws::grid_reads_back;
-use gm_job_run::laws::{jobs_see_vertices, views_are_graphs};
 use gm_job_run::run_script;
 use gm_jobs::laws::{long_text_is_refused, scripts_are_within_bounds};
 use gm_jobs::{JobsRefusal, MAX_TEXT_BYTES, Script, read};
@@ -37,29 +37,22 @@ use gm_words::RunCommand;
 use std::alloc::Global;
 use std::sync::Arc;
 
-/// The script of a text, for a graph of n vertices, all of which is built.
+/// The script of a text, for a graph of n vertices.
 fn read_script(alloc: Global, text: &[u8], n: u32) -> Result<Script, Failure>
     requires { (1 ≤ n) × (n ≤ MAX_VERTICES) }
     ensures stated { IfOk result (λ script. stated_jobs n text.now ≡ Some (jobs_of script)) }
-    ensures built { IfOk result (λ script. is_built script ≡ true) }
     ensures over { IfOk result (IsScriptOver n) }
     ensures taken { OnOk result (jobs_text_refusal n text.now ≡ None) }
     ensures err { IfErr result (IsRefusalOrMemory (jobs_text_refusal n text.now)) }
 {
     scripts_are_within_bounds();
-    let script = match read(alloc, text, n) {
-        Ok(script) => script,
-        Err(error) => {
-            return Err(match error.refusal() {
-                Some(refusal) => Failure::Refused(Refusal::JobText(refusal)),
-                None => Failure::OutOfMemory,
-            });
-        }
-    };
-    if !script.is_built() {
-        return Err(Failure::Refused(Refusal::NotBuiltYet));
+    match read(alloc, text, n) {
+        Ok(script) => Ok(script),
+        Err(error) => Err(match error.refusal() {
+            Some(refusal) => Failure::Refused(Refusal::JobText(refusal)),
+            None => Failure::OutOfMemory,
+        }),
     }
-    Ok(script)
 }
 
 /// The script of the command's job text, for a graph of n vertices. A text that is too long isn't read.
@@ -72,7 +65,6 @@ fn load_script<D: Depot>(
     requires { (1 ≤ n) × (n ≤ MAX_VERTICES) }
     ensures tells { IfSome (D.files depot.old) (λ files. IfOk result (λ script. TellsJobs files command.now.jobs.now n (jobs_of script))) }
     ensures states { IfOk result (λ script. StatesJobs n (jobs_of script)) }
-    ensures built { IfOk result (λ script. is_built script ≡ true) }
     ensures over { IfOk result (IsScriptOver n) }
     ensures read { OnOk result (D.reads depot.new ≡ counted (D.reads depot.old)) }
     ensures reads { ReadsFiles 1 (jobs_reading (run_said command.now) n) (depot_change ⟦<D as Depot>⟧ depot.old depot.new) result }
@@ -103,7 +95,6 @@ fn load<D: Depot>(
     requires { (1 ≤ command.now.chunk) × (command.now.chunk ≤ MAX_CHUNK_SIZE) }
     ensures holds { IfOk result (λ loaded. IfSome (D.files depot.old) (λ files. HoldsRun (run_said command.now) files loaded.0 (jobs_of loaded.1))) }
     ensures states { IfOk result (λ loaded. StatesJobs loaded.0.dimensions.n (jobs_of loaded.1)) }
-    ensures built { IfOk result (λ loaded. is_built loaded.1 ≡ true) }
     ensures over { IfOk result (λ loaded. IsScriptOver loaded.0.dimensions.n loaded.1) }
     ensures read { IfOk result (λ loaded. D.reads depot.new ≡ counted (counted_times (opening_reads loaded.0.places) (D.reads depot.old))) }
     ensures few { IfSome (D.files depot.old) (OpenedFew (run_said command.now) (depot_change ⟦<D as Depot>⟧ depot.old depot.new)) }
@@ -124,7 +115,6 @@ fn run_loaded<D: Depot>(
     cat: Catalogue,
     script: Script,
 ) -> Result<Vec<JobLine>, Failure>
-    requires built { is_built script ≡ true }
     requires over { IsScriptOver cat.dimensions.n script }
     ensures lines { IfOk result (λ lines. AreLinesOfJobs (λ job outcome. IsTold outcome) (jobs_of script) lines.items) }
     ensures ends { (bytes : List ℕ) → TellsGrid (D.files depot.old) name.now cat bytes

@@ -1,6 +1,7 @@
 //! The whole path over files in memory: texts, statuses, and each call failing in turn.
 mod grids;
 mod jobs;
+mod mutations;
 mod refusals;
 
 use crate::{graphm, program};
@@ -18,6 +19,8 @@ const PATH: &[u8] =
     b"GGRID001\x04\0\0\0\x02\0\0\0\x01\0\0\0\0\0\0\0\x02\0\0\0\0\0\0\0\0\0\0\0\0\0\0\0\x01\0\0\0\0\0\0\0\0\0\0\0\x01\0\0\0\x01\0\0\0\x01\0\0\0\x02\0\0\0\x01\0\0\0\0\0\0\0\x02\0\0\0\x05\0\0\0\x02\0\0\0\x03\0\0\0\x01\0\0\0";
 
 const REPORT: &[u8] = b"job a version 0 done rounds 3\n0 0\n1 1\n2 1\n3 2\n";
+
+const DISTANCES: &[u8] = b"job a version 0 done rounds 4\n0 0\n1 1\n2 2\n3 3\n";
 
 const USAGE: &[u8] =
     b"graphm: usage: run GRID JOBS WORKERS CHUNK, build EDGES GRID N PARTS, info GRID CHUNK, drill NUMBER SCALE WORKERS\n";
@@ -173,6 +176,15 @@ const GRID_FAILED: Ending = (6, b"", b"graphm: a.grid: read failed\n");
 
 const JOBS_FAILED: Ending = (6, b"", b"graphm: j.txt: read failed\n");
 
+/// A chunk that can't be read ends the job: the first one of block 0, those of block 1, and the last one.
+const READ_FAILED_0: Ending = (1, b"job a version 0 failed read 0 0\n", b"");
+
+const READ_FAILED_1: Ending = (1, b"job a version 0 failed read 1 1\n", b"");
+
+const READ_FAILED_2: Ending = (1, b"job a version 0 failed read 1 2\n", b"");
+
+const READ_FAILED_4: Ending = (1, b"job a version 0 failed read 3 4\n", b"");
+
 /// A call that fails, or would if it were made, how many calls are made then, and how the run ends.
 const FAILING_RUNS: [(Call, u64, usize, Ending); 15] = [
     (Call::Size, 1, 1, GRID_FAILED),
@@ -184,30 +196,10 @@ const FAILING_RUNS: [(Call, u64, usize, Ending); 15] = [
     (Call::Read, 6, 7, GRID_FAILED),
     (Call::Size, 2, 8, JOBS_FAILED),
     (Call::Read, 7, 9, JOBS_FAILED),
-    (
-        Call::Read,
-        8,
-        10,
-        (1, b"job a version 0 failed read 0 0\n", b""),
-    ),
-    (
-        Call::Read,
-        9,
-        11,
-        (1, b"job a version 0 failed read 1 2\n", b""),
-    ),
-    (
-        Call::Read,
-        10,
-        12,
-        (1, b"job a version 0 failed read 1 1\n", b""),
-    ),
-    (
-        Call::Read,
-        11,
-        13,
-        (1, b"job a version 0 failed read 3 4\n", b""),
-    ),
+    (Call::Read, 8, 10, READ_FAILED_0),
+    (Call::Read, 9, 11, READ_FAILED_2),
+    (Call::Read, 10, 12, READ_FAILED_1),
+    (Call::Read, 11, 13, READ_FAILED_4),
     (Call::Read, 12, 13, DONE),
     (Call::Size, 3, 13, DONE),
 ];
@@ -286,40 +278,21 @@ const AT_THREE: &[u8] = b"\x03\0\0\0\x03\0\0\0\x01\0\0\0";
 /// The edge from 2 to 3 of weight 3.
 const HEAVIER: &[u8] = b"\x02\0\0\0\x03\0\0\0\x03\0\0\0";
 
+/// .. or is another than at the opening.
+const CHANGED_0: &[u8] = b"job a version 0 failed changed 0 0\n";
+
+const CHANGED_1: &[u8] = b"job a version 0 failed changed 1 1\n";
+
+const CHANGED_2: &[u8] = b"job a version 0 failed changed 1 2\n";
+
+const CHANGED_4: &[u8] = b"job a version 0 failed changed 3 4\n";
+
 /// The read that finds other bytes, these bytes with zeros behind them, a job, how many reads are made then, the status, and the report.
 const DRIFTS: [(u64, &[u8], &[u8], u64, u8, &[u8]); 8] = [
-    (
-        8,
-        AT_ONE,
-        b"job a bfs 0",
-        8,
-        1,
-        b"job a version 0 failed changed 0 0\n",
-    ),
-    (
-        9,
-        AT_THREE,
-        b"job a bfs 0",
-        9,
-        1,
-        b"job a version 0 failed changed 1 2\n",
-    ),
-    (
-        10,
-        b"",
-        b"job a bfs 0",
-        10,
-        1,
-        b"job a version 0 failed changed 1 1\n",
-    ),
-    (
-        11,
-        AT_THREE,
-        b"job a bfs 0",
-        11,
-        1,
-        b"job a version 0 failed changed 3 4\n",
-    ),
+    (8, AT_ONE, b"job a bfs 0", 8, 1, CHANGED_0),
+    (9, AT_THREE, b"job a bfs 0", 9, 1, CHANGED_2),
+    (10, b"", b"job a bfs 0", 10, 1, CHANGED_1),
+    (11, AT_THREE, b"job a bfs 0", 11, 1, CHANGED_4),
     (12, AT_ONE, b"job a bfs 0", 11, 0, REPORT),
     // an edge of the same source and block takes the place of the chunk's
     (
@@ -340,14 +313,7 @@ const DRIFTS: [(u64, &[u8], &[u8], u64, u8, &[u8]); 8] = [
         b"job a version 0 done rounds 4\n0 0\n1 1\n2 2\n3 5\n",
     ),
     // what the opening found is compared
-    (
-        3,
-        AT_ONE,
-        b"job a bfs 1",
-        8,
-        1,
-        b"job a version 0 failed changed 0 0\n",
-    ),
+    (3, AT_ONE, b"job a bfs 1", 8, 1, CHANGED_0),
 ];
 
 #[test]
@@ -405,20 +371,8 @@ const LOOPED: &[u8] =
 /// A grid, a job of it, the status, how many reads are made with chunks of one edge and with large ones, and the report.
 const JOBS: [(&[u8], &[u8], u8, [u64; 2], &[u8]); 16] = [
     (PATH, b"job a bfs 0", 0, [11, 10], REPORT),
-    (
-        PATH,
-        b"job a sssp 0",
-        0,
-        [12, 11],
-        b"job a version 0 done rounds 4\n0 0\n1 1\n2 2\n3 3\n",
-    ),
-    (
-        PATH,
-        b"job a sssp 0 rounds 4",
-        0,
-        [12, 11],
-        b"job a version 0 done rounds 4\n0 0\n1 1\n2 2\n3 3\n",
-    ),
+    (PATH, b"job a sssp 0", 0, [12, 11], DISTANCES),
+    (PATH, b"job a sssp 0 rounds 4", 0, [12, 11], DISTANCES),
     (
         PATH,
         b"job a sssp 0 rounds 3",

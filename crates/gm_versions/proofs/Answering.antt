@@ -17,8 +17,8 @@ use Rattle.gm_label.specs.Catalogues.{Catalogue, sources_at, base_at, IsOver}
 use Rattle.gm_versions.specs.declared.histories.Histories.{Histories}
 use Rattle.gm_versions.specs.declared.versions.Versions.{Versions}
 use Rattle.gm_versions.specs.Lists.{joined}
-use Rattle.gm_versions.specs.Views.{site_at, concerning_at, sources_at_after, concerning_next, added_at_after, content_after, changes_up_to, last_update, Sight, changes_of_tag, content_of, IsUpdateUpTo, IsVersionKey, update_of}
-use Rattle.gm_versions.specs.ViewsRules.{update_at, concerning-up_to_last, base-placed}
+use Rattle.gm_versions.specs.Views.{site_at, concerning_at, sources_at_after, concerning_next, added_at_after, content_after, changes_up_to, changes_near, last_update, Sight, changes_of_tag, content_of, IsUpdateUpTo, IsVersionKey, update_of}
+use Rattle.gm_versions.specs.ViewsRules.{update_at, concerning-near, base-placed}
 use Rattle.gm_versions.specs.Histories.{History, last_of, up_to, with_update, history_of, with_change}
 use Rattle.gm_versions.specs.Kept.{history_in, IsLogged, IsKeptBefore, AreNotedFor, IsOf}
 use Rattle.gm_versions.proofs.HistorySteps.{or-commuted, history-up_to, history-now, history-last, history-added, history-lists, history-noted}
@@ -146,33 +146,33 @@ tag-changes : (updates : List (List Change)) (sight_of : ℕ → Sight) (count :
 tag-changes updates sight_of count (Update t) small = refl
 tag-changes updates sight_of count (Own job) small = absurd small
 
--- the changes up to the last update that concerns a chunk make the chunk's edges those of the version
-pub copied-placed : (cat : Catalogue) (versions : Versions) (version c last : ℕ) (raw : List Edge) → IsOf cat versions → version ≤ length versions.batches → c < length cat.places
-    → last ≡ last_of (up_to version (history_in versions.histories c)).updates → All (IsPlaced cat.dimensions (site_at cat c) (sources_at cat c)) raw
-    → edges_after (filter (may_concern cat.dimensions (site_at cat c)) (changes_up_to versions.batches last)) raw
-    ≡ edges_after (concerning_at cat c (changes_up_to versions.batches version)) raw
-copied-placed cat versions version c last raw is small within told placed =
+-- the updates up to a version that concern a chunk
+pub numbers-answered : (cat : Catalogue) (versions : Versions) (version c : ℕ) → IsOf cat versions → version ≤ length versions.batches → c < length cat.places
+    → (up_to version (history_in versions.histories c)).updates ≡ (history_of cat c versions.batches version).updates
+numbers-answered cat versions version c is small within = ap (λ (h : History). h.updates) (at_version cat versions version c is small within)
+
+-- their changes, as far as they may concern the chunk, make the chunk's edges those of the version
+pub copied-placed : (cat : Catalogue) (updates : List (List Change)) (version c : ℕ) (raw : List Edge) → All (IsPlaced cat.dimensions (site_at cat c) (sources_at cat c)) raw
+    → edges_after (filter (may_concern cat.dimensions (site_at cat c)) (changes_near cat updates c version)) raw
+    ≡ edges_after (concerning_at cat c (changes_up_to updates version)) raw
+copied-placed cat updates version c raw placed =
     let d = cat.dimensions in
     let site = site_at cat c in
-    let at : last ≡ last_update cat versions.batches c version = told ∙ last-answered cat versions version c is small within in
-    sym (left_out_by_block d site (sources_at cat c) (changes_up_to versions.batches last) raw (recursion_from_All (IsPlaced d site (sources_at cat c)) raw placed))
-    ∙ ap (λ (t : ℕ). edges_after (concerning_at cat c (changes_up_to versions.batches t)) raw) at
-    ∙ ap (λ (cs : List Change). edges_after cs raw) (concerning-up_to_last cat versions.batches c version)
+    sym (left_out_by_block d site (sources_at cat c) (changes_near cat updates c version) raw (recursion_from_All (IsPlaced d site (sources_at cat c)) raw placed))
+    ∙ ap (λ (cs : List Change). edges_after cs raw) (concerning-near cat updates c version)
 
-pub copied-content : (cat : Catalogue) (versions : Versions) (key : Key) (c last : ℕ) (raw edges : List Edge) (sight_of : ℕ → Sight) → IsOf cat versions
-    → IsVersionKey (length versions.batches) c key → c < length cat.places
-    → last ≡ last_of (up_to (update_of key.tag) (history_in versions.histories c)).updates → IsOver cat edges → raw ≡ base_at cat edges c
-    → edges_after (filter (may_concern cat.dimensions (site_at cat c)) (changes_up_to versions.batches last)) raw
-    ≡ content_of cat edges versions.batches sight_of key
-copied-content cat versions key c last raw edges sight_of is names within told over base =
-    let small = names.update in
+pub copied-content : (cat : Catalogue) (updates : List (List Change)) (key : Key) (c : ℕ) (raw edges : List Edge) (sight_of : ℕ → Sight)
+    → IsVersionKey (length updates) c key → IsOver cat edges → raw ≡ base_at cat edges c
+    → edges_after (filter (may_concern cat.dimensions (site_at cat c)) (changes_near cat updates c (update_of key.tag))) raw
+    ≡ content_of cat edges updates sight_of key
+copied-content cat updates key c raw edges sight_of names over base =
     let Placed = IsPlaced cat.dimensions (site_at cat c) (sources_at cat c) in
     let placed : All Placed raw =
     subst (λ (xs : List Edge). All Placed xs) (sym base) (All-from_recursion Placed (base_at cat edges c) (base-placed cat edges over c)) in
-    copied-placed cat versions (update_of key.tag) c last raw is (update-within (length versions.batches) key.tag small) within told placed
-    ∙ ap (edges_after (concerning_at cat c (changes_up_to versions.batches (update_of key.tag)))) base
-    ∙ ap (λ (cs : List Change). content_after cat edges cs c) (tag-changes versions.batches sight_of (length versions.batches) key.tag small)
-    ∙ ap (content_after cat edges (changes_of_tag versions.batches sight_of key.tag)) (sym names.chunk)
+    copied-placed cat updates (update_of key.tag) c raw placed
+    ∙ ap (edges_after (concerning_at cat c (changes_up_to updates (update_of key.tag)))) base
+    ∙ ap (λ (cs : List Change). content_after cat edges cs c) (tag-changes updates sight_of (length updates) key.tag names.update)
+    ∙ ap (content_after cat edges (changes_of_tag updates sight_of key.tag)) (sym names.chunk)
 
 pub added-answered : (cat : Catalogue) (versions : Versions) (version c : ℕ) → IsOf cat versions → version ≤ length versions.batches → c < length cat.places
     → joined (up_to version (history_in versions.histories c)).added ≡ added_at_after cat c (changes_up_to versions.batches version)

@@ -1,6 +1,8 @@
 pub mod Lists
 pub mod Views
 pub mod ViewsRules
+pub mod Reaches
+pub mod WalksRules
 pub mod OverlaysRules
 pub mod Histories
 pub mod Kept

@@ -63,53 +63,59 @@ key-unchanged cat updates sight c unchanged =
 
 module _ {A : Type 0} (value : Overlay → A) where
   -- what an overlay of a chunk tells, or else this
-  found_at : A → List Overlay → ℕ → A
+  abbrev pub found_at : A → List Overlay → ℕ → A
   found_at other [] c = other
   found_at other (overlay ∷ overlays) c = cond (eqb overlay.key.chunk c) (value overlay) (found_at other overlays c)
 
   found-none : (overlays : List Overlay) (other : A) (c : ℕ) → AllByRecursion (λ o. eqb o.key.chunk c ≡ false) overlays → found_at other overlays c ≡ other
-  unfolding found_at
   found-none [] other c none = refl
   found-none (o ∷ overlays) other c none = cond-false (eqb o.key.chunk c) (value o) _ none.0 ∙ found-none overlays other c none.1
 
-  -- looked up among the overlays of those chunks that pass a test; a chunk that doesn't pass tells the same as none
-  found-filtered : (overlay_at : ℕ → Overlay) (is_one : ℕ → Bool) (other : A) (c : ℕ) (cs : List ℕ) → ((k : ℕ) → (overlay_at k).key.chunk ≡ k)
-      → (is_one c ≡ false → value (overlay_at c) ≡ other)
-      → found_at other (map overlay_at (filter is_one cs)) c ≡ cond (list_any (λ k. eqb k c) cs) (value (overlay_at c)) other
-  unfolding found_at
-  found-filtered overlay_at is_one other c [] numbered same = refl
-  found-filtered overlay_at is_one other c (k ∷ cs) numbered same =
+  -- looked up among the overlays of those chunks that pass a test
+  pub found-filtered : (overlay_at : ℕ → Overlay) (is_one : ℕ → Bool) (other : A) (c : ℕ) (cs : List ℕ) → ((k : ℕ) → (overlay_at k).key.chunk ≡ k)
+      → found_at other (map overlay_at (filter is_one cs)) c ≡ cond (list_any (λ k. eqb k c) cs) (cond (is_one c) (value (overlay_at c)) other) other
+  found-filtered overlay_at is_one other c [] numbered = refl
+  found-filtered overlay_at is_one other c (k ∷ cs) numbered =
       let rest = map overlay_at (filter is_one cs) in
-      let later = found-filtered overlay_at is_one other c cs numbered same in
+      let later = found-filtered overlay_at is_one other c cs numbered in
       let told = list_any (λ k. eqb k c) cs in
-      let here : (b : Bool) → eqb k c ≡ b → cond b (value (overlay_at k)) (found_at other rest c) ≡ cond (b || told) (value (overlay_at c)) other = elim [
-        | true ↦ λ is. ap (λ (n : ℕ). value (overlay_at n)) (eqb-true k c is)
-        | false ↦ λ is. later
+      let here = λ (n : ℕ). cond (is_one n) (value (overlay_at n)) other in
+      let first : (b : Bool) → eqb k c ≡ b → is_one k ≡ true → cond b (value (overlay_at k)) (found_at other rest c) ≡ cond (b || told) (here c) other = elim [
+        | true ↦ λ is one.
+            sym (ap (λ (p : Bool). cond p (value (overlay_at k)) other) one) ∙ ap here (eqb-true k c is)
+        | false ↦ λ is one. later
       ] in
-      let absent : (b t : Bool) → eqb k c ≡ b → is_one k ≡ false → cond t (value (overlay_at c)) other ≡ cond (b || t) (value (overlay_at c)) other = elim [
+      let passed : (b t : Bool) → eqb k c ≡ b → is_one k ≡ false → cond t (here c) other ≡ cond (b || t) (here c) other = elim [
         | true ↦ λ t is none.
-            let equal = same (ap is_one (sym (eqb-true k c is)) ∙ none) in
-            let either : (t : Bool) → cond t (value (overlay_at c)) other ≡ value (overlay_at c) = elim [ true ↦ refl | false ↦ sym equal ] in either t
+            let nothing : here c ≡ other = ap (λ (p : Bool). cond p (value (overlay_at c)) other) (ap is_one (sym (eqb-true k c is)) ∙ none) in
+            let either : (t : Bool) → cond t (here c) other ≡ here c = elim [ true ↦ refl | false ↦ sym nothing ] in either t
         | false ↦ λ t is none. refl
       ] in
-      let goal-at = λ (p : Bool). found_at other (map overlay_at (cond p (k ∷ filter is_one cs) (filter is_one cs))) c ≡ cond (eqb k c || told) (value (overlay_at c)) other in
+      let goal-at = λ (p : Bool). found_at other (map overlay_at (cond p (k ∷ filter is_one cs) (filter is_one cs))) c ≡ cond (eqb k c || told) (here c) other in
       let at : (p : Bool) → is_one k ≡ p → goal-at p = elim [
-        | true ↦ λ h. ap (λ (n : ℕ). cond (eqb n c) (value (overlay_at k)) (found_at other rest c)) (numbered k) ∙ here (eqb k c) refl
-        | false ↦ λ h. later ∙ absent (eqb k c) told refl h
+        | true ↦ λ h. ap (λ (n : ℕ). cond (eqb n c) (value (overlay_at k)) (found_at other rest c)) (numbered k) ∙ first (eqb k c) refl h
+        | false ↦ λ h. later ∙ passed (eqb k c) told refl h
       ] in
       at (is_one k) refl
 
+  -- where a chunk that doesn't pass tells the same as none
+  found-all : (overlay_at : ℕ → Overlay) (is_one : ℕ → Bool) (other : A) (c : ℕ) (cs : List ℕ) → ((k : ℕ) → (overlay_at k).key.chunk ≡ k)
+      → (is_one c ≡ false → value (overlay_at c) ≡ other)
+      → found_at other (map overlay_at (filter is_one cs)) c ≡ cond (list_any (λ k. eqb k c) cs) (value (overlay_at c)) other
+  found-all overlay_at is_one other c cs numbered same =
+      let at : (p : Bool) → is_one c ≡ p → cond p (value (overlay_at c)) other ≡ value (overlay_at c) = elim [ true ↦ λ one. refl | false ↦ λ none. sym (same none) ] in
+      found-filtered overlay_at is_one other c cs numbered
+      ∙ ap (λ (v : A). cond (list_any (λ k. eqb k c) cs) v other) (at (is_one c) refl)
+
 key_at-found : (overlays : List Overlay) (c : ℕ) → key_at overlays c ≡ found_at (λ (o : Overlay). o.key) (record { chunk = c; tag = Update 0 }) overlays c
-unfolding found_at
 key_at-found [] c = refl
 key_at-found (o ∷ overlays) c = ap (cond (eqb o.key.chunk c) o.key) (key_at-found overlays c)
 
 added_at-found : (overlays : List Overlay) (c : ℕ) → added_at overlays c ≡ found_at (λ (o : Overlay). o.added) [] overlays c
-unfolding found_at
 added_at-found [] c = refl
 added_at-found (o ∷ overlays) c = ap (cond (eqb o.key.chunk c) o.added) (added_at-found overlays c)
 
-is_number-from : (low n c : ℕ) → low ≤ c → c < low + n → list_any (λ k. eqb k c) (range_with_len low n) ≡ true
+pub is_number-from : (low n c : ℕ) → low ≤ c → c < low + n → list_any (λ k. eqb k c) (range_with_len low n) ≡ true
 is_number-from low zero c above below = absurd (omega arith)
 is_number-from low (suc n) c above below =
     elim (cases_lt low c) as (λ _. list_any (λ k. eqb k c) (range_with_len low (suc n)) ≡ true) [
@@ -117,7 +123,7 @@ is_number-from low (suc n) c above below =
       | inr here ↦ or_left (eqb low c) _ (eq-eqb low c (omega arith))
     ]
 
-is_number-past : (low n c : ℕ) → low + n ≤ c → list_any (λ k. eqb k c) (range_with_len low n) ≡ false
+pub is_number-past : (low n c : ℕ) → low + n ≤ c → list_any (λ k. eqb k c) (range_with_len low n) ≡ false
 is_number-past low zero c past = refl
 is_number-past low (suc n) c past =
     ap (λ (b : Bool). b || list_any (λ k. eqb k c) (range_with_len (low + 1) n)) (ne_eqb low c (λ same. omega arith))
@@ -128,7 +134,7 @@ pub key_at-overlays : (cat : Catalogue) (updates : List (List Change)) (sight : 
     → key_at (overlays_of cat updates sight) c ≡ key_of cat updates sight c
 key_at-overlays cat updates sight c within =
     key_at-found (overlays_of cat updates sight) c
-    ∙ found-filtered (λ (o : Overlay). o.key) (overlay_of cat updates sight) (is_changed cat updates sight) (record { chunk = c; tag = Update 0 }) c (chunk_numbers cat)
+    ∙ found-all (λ (o : Overlay). o.key) (overlay_of cat updates sight) (is_changed cat updates sight) (record { chunk = c; tag = Update 0 }) c (chunk_numbers cat)
     (λ k. refl) (key-unchanged cat updates sight c)
     ∙ ap (λ (b : Bool). cond b (key_of cat updates sight c) (record { chunk = c; tag = Update 0 })) (is_number-from 0 (length cat.places) c (omega arith) (omega arith))
 
@@ -136,7 +142,7 @@ pub key_at-past : (cat : Catalogue) (updates : List (List Change)) (sight : Sigh
     → key_at (overlays_of cat updates sight) c ≡ record { chunk = c; tag = Update 0 }
 key_at-past cat updates sight c past =
     key_at-found (overlays_of cat updates sight) c
-    ∙ found-filtered (λ (o : Overlay). o.key) (overlay_of cat updates sight) (is_changed cat updates sight) (record { chunk = c; tag = Update 0 }) c (chunk_numbers cat)
+    ∙ found-all (λ (o : Overlay). o.key) (overlay_of cat updates sight) (is_changed cat updates sight) (record { chunk = c; tag = Update 0 }) c (chunk_numbers cat)
     (λ k. refl) (key-unchanged cat updates sight c)
     ∙ ap (λ (b : Bool). cond b (key_of cat updates sight c) (record { chunk = c; tag = Update 0 })) (is_number-past 0 (length cat.places) c (omega arith))
 
@@ -145,11 +151,11 @@ pub added_at-overlays : (cat : Catalogue) (updates : List (List Change)) (sight 
     → added_at (overlays_of cat updates sight) c ≡ added_at_after cat c (changes_seen updates sight)
 added_at-overlays cat updates sight c within =
     added_at-found (overlays_of cat updates sight) c
-    ∙ found-filtered (λ (o : Overlay). o.added) (overlay_of cat updates sight) (is_changed cat updates sight) [] c (chunk_numbers cat)
+    ∙ found-all (λ (o : Overlay). o.added) (overlay_of cat updates sight) (is_changed cat updates sight) [] c (chunk_numbers cat)
     (λ k. refl) (λ unchanged. ap added_sources (none_is _ unchanged))
     ∙ ap (λ (b : Bool). cond b (added_at_after cat c (changes_seen updates sight)) []) (is_number-from 0 (length cat.places) c (omega arith) (omega arith))
 
-ascend-lower : (low high : ℕ) (overlays : List Overlay) → low ≤ high → AscendByChunk high overlays → AscendByChunk low overlays
+pub ascend-lower : (low high : ℕ) (overlays : List Overlay) → low ≤ high → AscendByChunk high overlays → AscendByChunk low overlays
 ascend-lower low high [] order ascend = tt
 ascend-lower low high (o ∷ overlays) order ascend = let first = ascend.0 in (omega arith, ascend.1)
 

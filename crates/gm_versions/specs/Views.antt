@@ -5,7 +5,6 @@ use Rattle.gm_base.specs.declared.edge.Edge.{Edge}
 use Rattle.gm_base.specs.declared.edge.Key.{Key}
 use Rattle.gm_base.specs.declared.edge.Tag.{Tag}
 use Rattle.gm_base.specs.declared.edge.Tag.TheVariants.{Update, Own}
-use Rattle.gm_base.specs.Graph.{edge, HasEndsBelow}
 use Rattle.gm_changes.specs.declared.change.Change.{Change}
 use Rattle.gm_changes.specs.declared.change.Change.TheVariants.{Add, Cut}
 use Rattle.gm_changes.specs.Changes.{edges_after}
@@ -60,6 +59,14 @@ last_update cat updates c (suc version) =
     if is_some_change (concerning_next cat c (changes_up_to updates version) (slice_index_or updates version []))
     then suc version
     else last_update cat updates c version
+
+-- the changes of those updates up to a version that concern the chunk
+abbrev pub changes_near : Catalogue → List (List Change) → ℕ → ℕ → List Change
+changes_near cat updates c zero = []
+changes_near cat updates c (suc version) =
+    if is_some_change (concerning_next cat c (changes_up_to updates version) (slice_index_or updates version []))
+    then changes_near cat updates c version ++ slice_index_or updates version []
+    else changes_near cat updates c version
 
 -- a job's place among the updates, and its own changes
 pub record Sight : Type 0 where

@@ -13,11 +13,11 @@ use Rattle.gm_changes.specs.declared.change.Change.{Change}
 use Rattle.gm_changes.specs.declared.change.Change.TheVariants.{Add, Cut}
 use Rattle.gm_changes.specs.Changes.{ChangesWithin, is_between, edges_after_one, edges_after}
 use Rattle.gm_changes.specs.ChangesRules.{edges-parts}
-use Rattle.gm_changes.specs.Concerns.{Site, lists, concerns, concerning, sources_after_one, IsPlaced, AddsWithin}
+use Rattle.gm_changes.specs.Concerns.{Site, lists, concerns, concerning, sources_after, sources_after_one, IsPlaced, AddsWithin}
 use Rattle.gm_changes.specs.ConcernsRules.{concerning-parts, placed_after}
 use Rattle.gm_changes.specs.JoinedRules.{joined_over_chunks}
 use Rattle.gm_label.specs.Catalogues.{Catalogue, place_at, sources_at, base_at, chunk_numbers, IsOver}
-use Rattle.gm_versions.specs.Views.{added_sources, added_at_after, IsVersionKey, site_at, concerning_at, sources_at_after, concerning_next, content_after, changes_up_to, is_some_change, last_update, Sight, changes_seen, view_of, key_of, changes_of_tag, content_of}
+use Rattle.gm_versions.specs.Views.{added_sources, added_at_after, IsVersionKey, site_at, concerning_at, sources_at_after, concerning_next, content_after, changes_up_to, changes_near, is_some_change, last_update, Sight, changes_seen, view_of, key_of, changes_of_tag, content_of}
 
 pub none_is : (changes : List Change) → is_some_change changes ≡ false → changes ≡ []
 none_is [] h = refl
@@ -106,6 +106,14 @@ pub without_second : (cat : Catalogue) (c : ℕ) (first second : List Change) �
 without_second cat c first second none =
     in_parts cat c first second ∙ ap (λ cs. concerning_at cat c first ++ cs) (none_is _ none) ∙ append-nil (concerning_at cat c first)
 
+-- where the same of the changes before concern the chunk, the same do with further changes
+pub concerning-same_before : (cat : Catalogue) (c : ℕ) (before other next : List Change) → concerning_at cat c before ≡ concerning_at cat c other
+    → concerning_at cat c (before ++ next) ≡ concerning_at cat c (other ++ next)
+concerning-same_before cat c before other next same =
+    in_parts cat c before next
+    ∙ ap (λ (cs : List Change). cs ++ concerning cat.dimensions (site_at cat c) (sources_after cs (sources_at cat c)) next) same
+    ∙ sym (in_parts cat c other next)
+
 pub concerning-up_to_last : (cat : Catalogue) (updates : List (List Change)) (c version : ℕ)
     → concerning_at cat c (changes_up_to updates (last_update cat updates c version)) ≡ concerning_at cat c (changes_up_to updates version)
 concerning-up_to_last cat updates c zero = refl
@@ -118,6 +126,22 @@ concerning-up_to_last cat updates c (suc version) =
           concerning-up_to_last cat updates c version ∙ sym (without_second cat c (changes_up_to updates version) (update_at updates version) none)
     ] in
     at some refl
+
+-- of the updates up to a version those that concern the chunk suffice
+pub concerning-near : (cat : Catalogue) (updates : List (List Change)) (c version : ℕ)
+    → concerning_at cat c (changes_near cat updates c version) ≡ concerning_at cat c (changes_up_to updates version)
+concerning-near cat updates c zero = refl
+concerning-near cat updates c (suc version) =
+    let near = changes_near cat updates c version in
+    let before = changes_up_to updates version in
+    let batch = update_at updates version in
+    let earlier = concerning-near cat updates c version in
+    let at : (b : Bool) → is_some_change (concerning_next cat c before batch) ≡ b
+    → concerning_at cat c (cond b (near ++ batch) near) ≡ concerning_at cat c (before ++ batch) = elim [
+      | true ↦ λ so. concerning-same_before cat c near before batch earlier
+      | false ↦ λ none. earlier ∙ sym (without_second cat c before batch none)
+    ] in
+    at (is_some_change (concerning_next cat c before batch)) refl
 
 pub content-up_to_last : (cat : Catalogue) (edges : List Edge) (updates : List (List Change)) (c version : ℕ)
     → content_after cat edges (changes_up_to updates (last_update cat updates c version)) c ≡ content_after cat edges (changes_up_to updates version) c

@@ -1,6 +1,6 @@
 //! The updates of a grid.
 
-ghost use Rattle.std.specs.Prelude.{◌≡◌, ◌<◌, ◌≤◌, [], ◌∷◌, ◌++◌, length, OnOk, OnErr};
+ghost use Rattle.std.specs.Prelude.{◌≡◌, ◌-◌, ◌<◌, ◌≤◌, [], ◌∷◌, ◌++◌, length, slice_index_or, OnOk, OnErr};
 ghost use Rattle.gm_base.specs.declared.limits.TheConstants.{MAX_CHANGES};
 ghost use Rattle.gm_versions.specs.Views.{changes_up_to};
 
@@ -62,5 +62,14 @@ impl Batches {
         ensures { result.now ≡ changes_up_to self.now version }
     {
         self.lists.first(version as usize)
+    }
+    /// The changes of one update, counted from 1.
+    pub(crate) fn get(&self, update: u32) -> &[Change]
+        requires some { 1 ≤ update }
+        requires within { update ≤ length self.now }
+        ensures { result.now ≡ slice_index_or self.now (update - 1) [] }
+    {
+        let before = self.up_to(update - 1).len();
+        &self.up_to(update)[before..]
     }
 }

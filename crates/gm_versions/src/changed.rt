@@ -114,6 +114,14 @@ impl Changed {
         }
     }
 
+    /// The updates up to a version that concern the chunk, ascending.
+    pub(crate) fn updates_up_to(&self, version: u32) -> &[u32]
+        ensures { result.now ≡ (up_to version self.now).updates }
+    {
+        let count = count_up_to(self.updates.as_slice(), version);
+        &self.updates[..count]
+    }
+
     /// The sources that updates up to a version added to the chunk.
     pub(crate) fn added_up_to(&self, version: u32) -> &[u32]
         ensures { result.now ≡ joined (up_to version self.now).added }

@@ -28,7 +28,7 @@ pub(crate) struct Histories {
 }
 
 /// The number behind that of the last chunk of a block.
-fn end_of_block(cat: &Catalogue, block: u32) -> u32
+pub(crate) fn end_of_block(cat: &Catalogue, block: u32) -> u32
     requires { block < cat.now.dimensions.parts * cat.now.dimensions.parts }
     ensures some { 1 ≤ result }
     ensures last { IsLastOf cat.now block (result - 1) }
@@ -79,6 +79,16 @@ impl Histories {
         match self.changed.get(&chunk) {
             Some(history) => history.last_up_to(version),
             None => 0,
+        }
+    }
+
+    /// The updates up to a version that concern a chunk, ascending.
+    pub(crate) fn updates_up_to(&self, version: u32, chunk: u32) -> &[u32]
+        ensures { result.now ≡ (up_to version (history_in self.now chunk)).updates }
+    {
+        match self.changed.get(&chunk) {
+            Some(history) => history.updates_up_to(version),
+            None => &[],
         }
     }
 

@@ -7,8 +7,10 @@ pub mod examples;
 mod histories;
 pub mod laws;
 mod lists;
+mod reached;
 #[cfg(test)]
 mod tests;
 mod versions;
 
+pub use reached::reach;
 pub use versions::Versions;

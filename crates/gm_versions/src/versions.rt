@@ -7,7 +7,7 @@ ghost use Rattle.gm_changes.specs.Changes.{ChangesWithin, edges_after};
 ghost use Rattle.gm_changes.specs.Concerns.{lists, concerns, may_concern};
 ghost use Rattle.gm_label.specs.Catalogues.{Catalogue as Known};
 ghost use Rattle.gm_label.specs.Overlays.{AreOverlays};
-ghost use Rattle.gm_versions.specs.Views.{site_at, sources_at_after, added_at_after, changes_up_to, sight_of_version, key_of, overlays_of, IsVersionKey, update_of};
+ghost use Rattle.gm_versions.specs.Views.{site_at, sources_at_after, added_at_after, changes_up_to, changes_near, sight_of_version, key_of, overlays_of, IsVersionKey, update_of};
 ghost use Rattle.gm_versions.specs.Kept.{IsOf, IsKeptBefore, AreNotedFor, IsCopy};
 
 use crate::batches::Batches;
@@ -155,24 +155,27 @@ impl Versions {
         }
     }
 
-    /// Makes the changes of the updates up to a version that concern a chunk, in one walk over its edges.
-    fn change(
+    /// Adds to the list the changes of those updates up to a version that concern a chunk, as far as they may concern it whatever
+    /// its sources are. To apply these to the chunk's edges is to apply those that concern it. Updates that don't concern the chunk
+    /// aren't looked at. After `Memory` some of them may be in the list.
+    pub fn gather(
         &self,
-        alloc: Global,
         cat: &Catalogue,
         version: u32,
         chunk: u32,
-        edges: &mut Edges,
+        into: &mut Changes,
     ) -> Result<(), Memory>
+        requires catalogue { IsOf cat.now self.now }
         requires version { version ≤ length self.now.batches }
         requires chunk { chunk < length cat.now.places }
-        ensures { OnOk result (edges.new ≡ edges_after (filter (may_concern cat.now.dimensions (site_at cat.now chunk)) (changes_up_to self.now.batches version)) edges.old) }
+        ensures { OnOk result (into.new ≡ into.old ++ filter (may_concern cat.now.dimensions (site_at cat.now chunk)) (changes_near cat.now self.now.batches chunk version)) }
     {
         let block = cat.chunk(chunk).block;
         let last = cat.is_last(chunk);
-        let mut near = Changes::new(alloc);
-        gather(self.changes(version), cat.shape(), block, last, &mut near)?;
-        apply(alloc, near.as_slice(), edges)
+        for update in self.histories.updates_up_to(version, chunk) {
+            gather(self.batches.get(*update), cat.shape(), block, last, into)?;
+        }
+        Ok(())
     }
 
     /// The copy of a chunk for all jobs of a key that isn't a job's own. It takes over the chunk's edges as they were read from the
@@ -190,8 +193,9 @@ impl Versions {
         ensures { IfOk result (IsCopy cat.now self.now raw.chunk raw.edges key) }
     {
         let Raw { chunk, mut edges } = raw;
-        let last = self.histories.last_up_to(update_of(key.tag), chunk);
-        self.change(alloc, cat, last, chunk, &mut edges)?;
+        let mut near = Changes::new(alloc);
+        self.gather(cat, update_of(key.tag), chunk, &mut near)?;
+        apply(alloc, near.as_slice(), &mut edges)?;
         Ok(ChunkCopy { key, edges })
     }
 

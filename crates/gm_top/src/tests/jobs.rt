@@ -64,8 +64,9 @@ fn job_texts_are_run(rt: HostRuntime) -> Result<(), Fail> {
 }
 
 /// Job texts that are refused, and what the line says behind the file's name.
-const REFUSED_TEXTS: [(&[u8], &str); 8] = [
-    (b"job a bfs 0\nmutate add 0 3 1\n", "not built yet"),
+const REFUSED_TEXTS: [(&[u8], &str); 9] = [
+    (b"mutate del 0 1\njob a bfs 0\n", "line 1: out of place"),
+    (b"job a bfs 0\nmutate add 0 4 1\n", "line 2: no such vertex"),
     (b"update\njob a bfs 4\n", "line 2: no such vertex"),
     (b"job a bfs 0\nadd 0 1 1\n", "line 2: out of place"),
     (b"job a bfs 0\n\njob a wcc\n", "line 3: name used twice"),

@@ -1,5 +1,5 @@
 use Rattle.std.proofs.lemmas.Result.{err_from_is_err_and}
-use Rattle.gm_job_run.proofs.Copies.{copy_seen, copy_within, version_key}
+use Rattle.gm_job_run.proofs.Copies.{copy_seen, copy_within, key_seen}
 use Rattle.gm_job_run.proofs.job_run.fetch_copy.Goals as goal
 
 pub returns-in_err-raw-clause-told_stop : goal.returns-in_err-raw-clause-told_stop
@@ -9,11 +9,11 @@ returns-in_err-raw-clause-told_stop g c bytes told =
 
 pub into_copy-requires-clause-key : goal.into_copy-requires-clause-key
 into_copy-requires-clause-key g c =
-    version_key c.args.cat.now c.args.view.now c.args.key c.in_ok-raw.raw.chunk c.requires.view c.requires.chunk c.requires.key c.in_ok-raw.ensures.fits.number
+    key_seen c.args.cat.now c.args.view.now c.args.key c.in_ok-raw.raw.chunk c.requires.chunk c.requires.key c.in_ok-raw.ensures.fits.number
 
 pub returns-in-Ok-clause-ends : goal.returns-in-Ok-clause-ends
 returns-in-Ok-clause-ends g c =
-    copy_within c.args.cat.now c.args.view.now c.args.key c.in_ok-raw.raw c.in-Ok.copy c.requires.view c.requires.chunk c.requires.key c.in_ok-raw.ensures.fits c.in-Ok.ensures
+    copy_within c.args.cat.now c.args.view.now c.args.key c.in_ok-raw.raw c.in-Ok.copy c.requires.over c.in_ok-raw.ensures.fits c.in-Ok.ensures
 
 pub returns-in-Ok-clause-told : goal.returns-in-Ok-clause-told
 returns-in-Ok-clause-told g c bytes told =

@@ -16,7 +16,8 @@ use Rattle.gm_work.specs.Held.{Held, knows}
 use Rattle.gm_outside.specs.Causes.{counted_times}
 use Rattle.gm_job_run.specs.declared.job_run.Stop.{Stop}
 use Rattle.gm_job_run.specs.JobRuns.{OfChunk, view_over, pass_reads}
-use Rattle.gm_job_run.specs.SeenViews.{chunk_seen, overlays_seen, seen_in}
+use Rattle.gm_core.specs.SeenViews.{chunk_seen, overlays_seen}
+use Rattle.gm_job_run.specs.SeenViews.{seen_in}
 use Rattle.gm_job_run.proofs.Copies.{key_at-chunk}
 use Rattle.gm_job_run.proofs.JobLemmas.{chunk_passed, stops_by, under_way-needed, under_way-few}
 use Rattle.gm_job_run.proofs.Passing.{same_job, same_job-entry, carries-done}

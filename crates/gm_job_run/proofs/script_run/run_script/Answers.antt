@@ -18,8 +18,9 @@ use Rattle.gm_work.specs.Weights.{run_weight}
 use Rattle.gm_job_run.specs.JobRuns.{pass_reads}
 use Rattle.gm_job_run.specs.declared.script_run.Job.{Job}
 use Rattle.gm_job_run.specs.JobLines.{job_below, runs_weight, view_of_job}
+use Rattle.gm_core.specs.SeenViews.{IsSeenOver, seen_by}
 use Rattle.gm_job_run.proofs.Listing.{all_done, ends_for, few_for, few_sofar, frame_next}
-use Rattle.gm_job_run.proofs.Scripts.{ScriptSoFar, script_begins, script_job, script_few, script_update, script_wait}
+use Rattle.gm_job_run.proofs.Scripts.{ScriptSoFar, script_begins, script_job, script_few, script_sees, script_update, script_wait}
 use Rattle.gm_job_run.proofs.script_run.run_script.Goals as goal
 
 -- the next entry, by what it is
@@ -27,21 +28,21 @@ entry_is : {rest : List Line} {entry is : Line} (more : List Line) → rest ≡ 
 entry_is more first same = first ∙ ap (λ (e : Line). e ∷ more) same
 
 -- a job by its number
-numbered : {number count : ℕ} (name : List ℕ) (spec : Spec) → number ≡ count
-    → ◌≡◌ {A = Job} (record { number = number; name = name; spec = spec }) (record { number = count; name = name; spec = spec })
-numbered name spec same = ap (λ (n : ℕ). record { number = n; name = name; spec = spec }) same
+numbered : {number count : ℕ} (name : List ℕ) (spec : Spec) (own : List Change) → number ≡ count
+    → ◌≡◌ {A = Job} (record { number = number; name = name; spec = spec; own = own }) (record { number = count; name = name; spec = spec; own = own })
+numbered name spec own same = ap (λ (n : ℕ). record { number = n; name = name; spec = spec; own = own }) same
 
-abbrev job_at : Versions → ℕ → List ℕ → Spec → StatedJob
-job_at versions number name spec = job_below versions (record { number = number; name = name; spec = spec })
+abbrev job_at : Versions → ℕ → List ℕ → Spec → List Change → StatedJob
+job_at versions number name spec own = job_below versions (record { number = number; name = name; spec = spec; own = own })
 
 few_at : {D : Type 0} (g : Depot.Ghosts D) (old mid new : D) (grid : List ℕ) (cat : Catalogue) (script rest more : List Line) (versions : Versions) (done : List JobLine)
     (name : List ℕ) (spec : Spec) (own : List Change) (number : ℕ)
     → ScriptSoFar g old mid grid cat script rest versions done → rest ≡ lines.Job name spec own ∷ more → number ≡ length done
     → ((bytes : List ℕ) → TellsGrid (g.files mid) grid cat bytes → g.reads new ≤ g.reads mid
-    + run_weight (view_of_job cat (edges_in bytes) (job_at versions number name spec)) (pass_reads cat))
+    + run_weight (view_of_job cat (edges_in bytes) (job_at versions number name spec own)) (pass_reads cat))
     → (bytes : List ℕ) → TellsGrid (g.files old) grid cat bytes → g.reads new ≤ g.reads old + runs_weight cat (edges_in bytes) (jobs_of script)
 few_at g old mid new grid cat script rest more versions done name spec own number sofar is same few =
-    script_few g old mid new grid cat script rest more versions done name spec own (record { number = number; name = name; spec = spec }) sofar is (numbered name spec same) few
+    script_few g old mid new grid cat script rest more versions done name spec own (record { number = number; name = name; spec = spec; own = own }) sofar is (numbered name spec own same) few
 
 pub loop-entry-init : goal.loop-entry-init
 loop-entry-init g c = (
@@ -49,17 +50,24 @@ loop-entry-init g c = (
   tt,
   script_begins g.D.Depot c.args.depot.now c.args.grid.now (arc_value c.args.cat.now) c.args.script _ _ _
       (c.into_iter-entry-iterator.ensures.into_iter_gives.0 ∙ c.into_lines-entry-items.ensures) c.new-versions.ensures.batches c.new-lines.ensures.items
-      (c.new-versions.ensures.catalogue (arc_value c.args.cat.now)) c.requires.built c.requires.over,
+      (c.new-versions.ensures.catalogue (arc_value c.args.cat.now)) c.requires.over,
 )
 
 pub returns-in_err-cat-in-Job-clause-few : goal.returns-in_err-cat-in-Job-clause-few
 returns-in_err-cat-in-Job-clause-few g c = few_sofar g.D.Depot _ _ _ _ _ _ _ c.loop-entry.invariant.2.run
 
+pub run_line-requires-clause-over : goal.run_line-requires-clause-over
+run_line-requires-clause-over g c =
+    let job : Job = record { number = c.len-number.result; name = c.in-Job.name; spec = c.in-Job.spec; own = c.in-Job.own } in
+    subst (λ (cat : Catalogue). IsSeenOver cat.dimensions.n (seen_by (job_below c.loop-entry.versions job))) (sym c.in_ok-cat-in-Job.ensures.cases)
+    (script_sees g.D.Depot _ _ _ _ _ _ _ c.loop-entry.versions _ c.in-Job.name c.in-Job.spec c.in-Job.own job c.loop-entry.invariant.2
+    (entry_is (into_iter_items c.next.new.self) c.in-Some.ensures.steps.0 c.in-Job.is) (numbered c.in-Job.name c.in-Job.spec c.in-Job.own (c.len-number.ensures ∙ c.loop-entry.lines.ok.0)))
+
 pub returns-in_err-line-in-Job-clause-few : goal.returns-in_err-line-in-Job-clause-few
 returns-in_err-line-in-Job-clause-few g c =
-    few_at g.D.Depot _ _ _ _ _ _ _ _ c.loop-entry.versions _ c.in-Job.name c.in-Job.spec c.in-Job._own c.len-number.result c.loop-entry.invariant.2
+    few_at g.D.Depot _ _ _ _ _ _ _ _ c.loop-entry.versions _ c.in-Job.name c.in-Job.spec c.in-Job.own c.len-number.result c.loop-entry.invariant.2
     (entry_is (into_iter_items c.next.new.self) c.in-Some.ensures.steps.0 c.in-Job.is) (c.len-number.ensures ∙ c.loop-entry.lines.ok.0)
-    (few_for g.D.Depot c.loop-entry.depot c.run_line.new.depot c.args.grid.now (job_at c.loop-entry.versions c.len-number.result c.in-Job.name c.in-Job.spec) _ _ c.in_ok-cat-in-Job.ensures.cases c.run_line.ensures.few)
+    (few_for g.D.Depot c.loop-entry.depot c.run_line.new.depot c.args.grid.now (job_at c.loop-entry.versions c.len-number.result c.in-Job.name c.in-Job.spec c.in-Job.own) _ _ c.in_ok-cat-in-Job.ensures.cases c.run_line.ensures.few)
 
 pub returns-in_err-line-in-Job-clause-frame : goal.returns-in_err-line-in-Job-clause-frame
 returns-in_err-line-in-Job-clause-frame g c = frame_next g.D.Depot _ _ _ c.loop-entry.invariant.2.run.frame c.run_line.ensures.frame
@@ -69,21 +77,21 @@ returns-in_err-push-in-Job-clause-frame g c = frame_next g.D.Depot _ _ _ c.loop-
 
 pub returns-in_err-push-in-Job-clause-few : goal.returns-in_err-push-in-Job-clause-few
 returns-in_err-push-in-Job-clause-few g c =
-    few_at g.D.Depot _ _ _ _ _ _ _ _ c.loop-entry.versions _ c.in-Job.name c.in-Job.spec c.in-Job._own c.len-number.result c.loop-entry.invariant.2
+    few_at g.D.Depot _ _ _ _ _ _ _ _ c.loop-entry.versions _ c.in-Job.name c.in-Job.spec c.in-Job.own c.len-number.result c.loop-entry.invariant.2
     (entry_is (into_iter_items c.next.new.self) c.in-Some.ensures.steps.0 c.in-Job.is) (c.len-number.ensures ∙ c.loop-entry.lines.ok.0)
-    (few_for g.D.Depot c.loop-entry.depot c.run_line.new.depot c.args.grid.now (job_at c.loop-entry.versions c.len-number.result c.in-Job.name c.in-Job.spec) _ _ c.in_ok-cat-in-Job.ensures.cases c.run_line.ensures.few)
+    (few_for g.D.Depot c.loop-entry.depot c.run_line.new.depot c.args.grid.now (job_at c.loop-entry.versions c.len-number.result c.in-Job.name c.in-Job.spec c.in-Job.own) _ _ c.in_ok-cat-in-Job.ensures.cases c.run_line.ensures.few)
 
-pub loop-entry-preserved-in-Job : goal.loop-entry-preserved-in-Job
-loop-entry-preserved-in-Job g c =
-    let job : Job = record { number = c.len-number.result; name = c.in-Job.name; spec = c.in-Job.spec } in
+pub loop-entry-preserved-in-Continue-branch-3 : goal.loop-entry-preserved-in-Continue-branch-3
+loop-entry-preserved-in-Continue-branch-3 g c =
+    let job : Job = record { number = c.len-number.result; name = c.in-Job.name; spec = c.in-Job.spec; own = c.in-Job.own } in
     let below = job_below c.loop-entry.versions job in
     let cases = c.in_ok-cat-in-Job.ensures.cases in (
       tt,
       tt,
       subst (λ (done : List JobLine). ScriptSoFar g.D.Depot c.args.depot.now c.run_line.new.depot c.args.grid.now (arc_value c.args.cat.now) c.args.script
           (into_iter_items c.next.new.self) c.loop-entry.versions done) (sym c.in_ok-push-in-Job.ensures.items)
-          (script_job g.D.Depot _ _ _ _ _ _ _ _ c.loop-entry.versions _ c.in-Job.name c.in-Job.spec c.in-Job._own job c.in_ok-line-in-Job.line c.loop-entry.invariant.2
-          (entry_is (into_iter_items c.next.new.self) c.in-Some.ensures.steps.0 c.in-Job.is) (numbered c.in-Job.name c.in-Job.spec (c.len-number.ensures ∙ c.loop-entry.lines.ok.0)) c.in_ok-line-in-Job.ensures.line
+          (script_job g.D.Depot _ _ _ _ _ _ _ _ c.loop-entry.versions _ c.in-Job.name c.in-Job.spec c.in-Job.own job c.in_ok-line-in-Job.line c.loop-entry.invariant.2
+          (entry_is (into_iter_items c.next.new.self) c.in-Some.ensures.steps.0 c.in-Job.is) (numbered c.in-Job.name c.in-Job.spec c.in-Job.own (c.len-number.ensures ∙ c.loop-entry.lines.ok.0)) c.in_ok-line-in-Job.ensures.line
           (ends_for g.D.Depot c.loop-entry.depot c.run_line.new.depot c.args.grid.now below c.in_ok-line-in-Job.line.outcome _ _ cases c.in_ok-line-in-Job.ensures.ends)
           (few_for g.D.Depot c.loop-entry.depot c.run_line.new.depot c.args.grid.now below _ _ cases c.run_line.ensures.few)
           c.in_ok-line-in-Job.ensures.faults c.run_line.ensures.frame),

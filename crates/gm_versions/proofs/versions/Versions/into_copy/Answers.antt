@@ -1,35 +1,26 @@
-use Rattle.std.proofs.Common.{ℕ, ap, ◌∙◌, refl, arith}
-use Rattle.gm_versions.specs.Views.{update_of}
-use Rattle.gm_versions.specs.ViewsRules.{last-le}
-use Rattle.gm_versions.specs.Histories.{last_of, up_to}
-use Rattle.gm_versions.specs.Kept.{history_in}
-use Rattle.gm_versions.proofs.Answering.{last-answered, update-within, copied-placed, copied-content}
+use Rattle.std.proofs.Common.{ℕ, ◌≤◌, List, ◌++◌, length, ap, ◌∙◌, refl, subst, sym}
+use Rattle.std.specs.List.{filter}
+use Rattle.gm_changes.specs.declared.change.Change.{Change}
+use Rattle.gm_changes.specs.Changes.{edges_after}
+use Rattle.gm_changes.specs.Concerns.{may_concern}
+use Rattle.gm_versions.specs.Views.{changes_near, site_at}
+use Rattle.gm_versions.proofs.Answering.{update-within, copied-placed, copied-content}
 use Rattle.gm_versions.proofs.versions.Versions.into_copy.Goals as goal
 
-pub change-requires-clause-version : goal.change-requires-clause-version
-change-requires-clause-version c =
-    let versions = c.args.self.now in
-    let chunk = c.args.raw.chunk in
-    let version = update_of c.args.key.tag in
-    let told = c.last_up_to-last.ensures ∙ ap (λ (v : ℕ). last_of (up_to v (history_in versions.histories chunk)).updates) c.update_of.ensures in
-    let small = update-within _ c.args.key.tag c.requires.key.update in
-    let last = last-answered c.args.cat.now versions version chunk c.requires.catalogue small c.requires.chunk in
-    omega (arith, told, last, last-le c.args.cat.now versions.batches chunk version, small)
+pub gather-requires-clause-version : goal.gather-requires-clause-version
+gather-requires-clause-version c =
+    subst (λ (v : ℕ). v ≤ length c.args.self.now.batches) (sym c.update_of.ensures) (update-within _ c.args.key.tag c.requires.key.update)
 
 pub returns : goal.returns
 returns c =
     let cat = c.args.cat.now in
-    let versions = c.args.self.now in
+    let updates = c.args.self.now.batches in
     let chunk = c.args.raw.chunk in
-    let last = c.last_up_to-last.result in
-    let small = update-within _ c.args.key.tag c.requires.key.update in
-    let told = c.last_up_to-last.ensures ∙ ap (λ (v : ℕ). last_of (up_to v (history_in versions.histories chunk)).updates) c.update_of.ensures in
+    let keeps = may_concern cat.dimensions (site_at cat chunk) in
+    let gathered = c.in_ok-gather.ensures ∙ ap (λ (cs : List Change). cs ++ filter keeps (changes_near cat updates chunk c.update_of.result)) c.new-near.ensures ∙ ap (λ (v : ℕ). filter keeps (changes_near cat updates chunk v)) c.update_of.ensures in
+    let made = c.in_ok-apply.ensures.ok ∙ ap (λ (cs : List Change). edges_after cs c.args.raw.edges) (c.as_slice.ensures ∙ gathered) in
     record {
       of_key = refl;
-      changed = λ placed.
-          c.in_ok-change.ensures
-          ∙ copied-placed cat versions (update_of c.args.key.tag) chunk last c.args.raw.edges c.requires.catalogue small c.requires.chunk told placed;
-      content = λ grid sight_of over base.
-          c.in_ok-change.ensures
-          ∙ copied-content cat versions c.args.key chunk last c.args.raw.edges grid sight_of c.requires.catalogue c.requires.key c.requires.chunk told over base;
+      changed = λ placed. made ∙ copied-placed cat updates _ chunk c.args.raw.edges placed;
+      content = λ grid sight_of over base. made ∙ copied-content cat updates c.args.key chunk c.args.raw.edges grid sight_of c.requires.key over base;
     }

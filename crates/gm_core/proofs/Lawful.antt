@@ -1,0 +1,66 @@
+-- What the laws of one job over its view give of the jobs of a script.
+use Rattle.std.specs.Prelude.{◌≡◌, ℕ, zero, suc, ◌<◌, Bool, true, false, List, [], ◌∷◌, length, refl}
+use Rattle.std.proofs.Common.{inl, inr, sym, ◌∙◌, true≢false, arith}
+use Rattle.std.proofs.lemmas.Bool.{cases_lt}
+use Rattle.gm_base.specs.declared.edge.Edge.{Edge}
+use Rattle.gm_label.specs.Catalogues.{Catalogue}
+use Rattle.gm_jobs.specs.declared.script.Line.{Line}
+use Rattle.gm_jobs.specs.StatedJobs.{jobs_of}
+use Rattle.gm_active.specs.Bits.{is_in}
+use Rattle.gm_active.specs.BitsRules.{is_in_past}
+use Rattle.gm_active.specs.NeedsRules.{length-needed_chunks, length-counted_chunks}
+use Rattle.gm_work.specs.declared.phase.Phase.{Phase}
+use Rattle.gm_work.specs.declared.phase.Phase.TheVariants.{Counting, Round}
+use Rattle.gm_work.specs.Entries.{Turning, owes_any}
+use Rattle.gm_work.specs.Entries.Turning.{Goes, Ends}
+use Rattle.gm_work.specs.Views.{JobView, StandingTurn, needed_in, IsTurnedWell}
+use Rattle.gm_work.specs.Views.StandingTurn.{StandsAt, EndsWith}
+use Rattle.gm_work.specs.Weights.{IsLeftBy}
+use Rattle.gm_core.specs.ScriptJobs.{job_view}
+use Rattle.gm_core.specs.JobWorks.{IsJobMidRound, IsTurnedAs, HasLeft, works_of}
+
+-- a mark stands for a number below the marks' length
+marked_within : (marks : List Bool) (c : ℕ) → is_in marks c ≡ true → c < length marks
+marked_within marks c marked =
+    elim (cases_lt c (length marks)) as (λ _. c < length marks) [
+      | inl below ↦ below
+      | inr past ↦ absurd (true≢false (sym marked ∙ is_in_past marks c past))
+    ]
+
+length-needed : (d : JobView) (phase : Phase) → length (needed_in d phase) ≡ d.known.chunks
+length-needed d (Counting r) = length-counted_chunks d.known.chunks d.known.sources_at
+length-needed d (Round r) = length-needed_chunks d.known.dimensions _ _ d.known.chunks d.known.block_at d.known.sources_at
+
+-- what is needed is a chunk
+pub needed_within : (d : JobView) (phase : Phase) (c : ℕ) → is_in (needed_in d phase) c ≡ true → c < d.known.chunks
+needed_within d phase c needed =
+    let below = marked_within (needed_in d phase) c needed in
+    let long = length-needed d phase in
+    omega (arith, below, long)
+
+-- what is owed wasn't passed, where nothing that was passed is owed
+pub unpassed : (passed owed : Bool) → (passed ≡ true → owed ≡ false) → owed ≡ true → passed ≡ false
+unpassed true owed none owes = absurd (true≢false (sym owes ∙ none refl))
+unpassed false owed none owes = refl
+
+some_marked : (marks : List Bool) → owes_any marks ≡ true → (c : ℕ) × (is_in marks c ≡ true)
+some_marked [] some = absurd (true≢false (sym some))
+some_marked (true ∷ marks) some = (zero, refl)
+some_marked (false ∷ marks) some = let later = some_marked marks some in (suc later.0, later.1)
+
+-- a turn of a job over its view is a turn of the job by its number
+pub turned_as : (cat : Catalogue) (edges : List Edge) (entries : List Line) (n : ℕ) (stands : StandingTurn) (turning : Turning) → n < length (jobs_of entries)
+    → IsTurnedWell (job_view cat edges entries n) stands turning → IsTurnedAs (works_of cat edges entries) (IsJobMidRound cat edges entries) n stands turning
+unfolding works_of
+turned_as cat edges entries n (StandsAt s) (Goes e) within well =
+    let some = some_marked e.owed well.1 in
+    (record { number = within; mid = well.0 }, record { chunk = some.0; owed = some.1 })
+turned_as cat edges entries n (StandsAt s) (Ends outcome) within well = absurd well
+turned_as cat edges entries n (EndsWith outcome) (Goes e) within well = absurd well
+turned_as cat edges entries n (EndsWith outcome) (Ends other) within well = (well.1, well.0 ∙ well.1)
+
+pub left_by_turn : (cat : Catalogue) (edges : List Edge) (entries : List Line) (n passes : ℕ) (stands : StandingTurn)
+    → IsLeftBy (job_view cat edges entries n) (λ c. 1) passes stands → HasLeft (works_of cat edges entries) n passes stands
+unfolding works_of
+left_by_turn cat edges entries n passes (StandsAt s) left = left
+left_by_turn cat edges entries n passes (EndsWith outcome) left = left

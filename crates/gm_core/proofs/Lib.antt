@@ -1,0 +1,3 @@
+pub mod SeenGraphs
+pub mod ScriptViews
+pub mod Lawful

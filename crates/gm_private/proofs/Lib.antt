@@ -1,0 +1,4 @@
+pub mod Sources
+pub mod Noting
+pub mod Overlaying
+pub mod Copying
