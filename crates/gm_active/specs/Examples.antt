@@ -1,7 +1,7 @@
 -- Small grids in chunks of one edge, and what jobs need of them round by round, as it was worked out by hand.
 use Rattle.std.specs.Prelude.{ℕ, Bool, List, [], ◌∷◌, length}
 use Rattle.gm_base.specs.declared.edge.Edge.{Edge}
-use Rattle.gm_base.specs.declared.edge.Tag.TheVariants.{Update}
+use Rattle.gm_base.specs.declared.copies.Tag.TheVariants.{Update}
 use Rattle.gm_base.specs.declared.job.Spec.{Spec}
 use Rattle.gm_base.specs.Graph.{edge, out_degree}
 use Rattle.gm_base.specs.Examples.{path_with_shortcut}

@@ -1,28 +1,12 @@
-//! Lists that contracts see as lists, and want of memory.
+//! Lists that contracts see as lists.
 
 ghost use Rattle.std.specs.Prelude.{◌≡◌, ◌==◌, [], ◌∷◌, ◌++◌, length, OnOk, OnErr};
 ghost use Rattle.std.specs.Slice.Iter.{iter_rest};
 
-use crate::{Edge, JobLine};
-use std::alloc::{AllocError, AllocFailed, Global};
+use crate::{Edge, JobLine, Memory};
+use std::alloc::Global;
 use std::marker::Model;
 use std::slice::Iter;
-
-/// An allocation was refused. It is the one answer that no contract ties to a cause.
-#[derive(Clone, Copy, Debug, PartialEq, Eq)]
-pub struct Memory;
-
-impl From<AllocError> for Memory {
-    fn from(_error: AllocError) -> Memory {
-        Memory
-    }
-}
-
-impl<T: Drop> From<AllocFailed<T>> for Memory {
-    fn from(_error: AllocFailed<T>) -> Memory {
-        Memory
-    }
-}
 
 /// A list in memory.
 #[derive(Drop)]

@@ -5,8 +5,8 @@ use Rattle.std.proofs.Common.{inl, inr, sym, ap, ◌∙◌, arith}
 use Rattle.std.proofs.lemmas.Bool.{cases_lt}
 use Rattle.std.proofs.lemmas.List.{get_or_append_left}
 use Rattle.gm_base.specs.declared.edge.Edge.{Edge}
-use Rattle.gm_base.specs.declared.edge.Key.{Key}
-use Rattle.gm_base.specs.declared.edge.Tag.TheVariants.{Update, Own}
+use Rattle.gm_base.specs.declared.copies.Key.{Key}
+use Rattle.gm_base.specs.declared.copies.Tag.TheVariants.{Update, Own}
 use Rattle.gm_base.specs.declared.job.Spec.{Spec}
 use Rattle.gm_changes.specs.declared.change.Change.{Change}
 use Rattle.gm_changes.specs.Changes.{edges_after}

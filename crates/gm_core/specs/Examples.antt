@@ -1,7 +1,7 @@
 -- A script over a small grid: a job that takes an edge away for itself, an update, and a job below it.
 use Rattle.std.specs.Prelude.{ℕ, List, [], ◌∷◌, map, codes}
 use Rattle.gm_base.specs.declared.edge.Edge.{Edge}
-use Rattle.gm_base.specs.declared.edge.Tag.{Tag}
+use Rattle.gm_base.specs.declared.copies.Tag.{Tag}
 use Rattle.gm_base.specs.declared.job.Spec.TheVariants.{Bfs}
 use Rattle.gm_base.specs.Examples.{path_with_shortcut}
 use Rattle.gm_base.specs.Graph.{edge}

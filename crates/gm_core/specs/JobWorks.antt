@@ -2,7 +2,7 @@
 use Rattle.std.specs.Prelude.{◌≡◌, ℕ, ◌+◌, ◌*◌, ◌<◌, ◌≤◌, Bool, true, false, ◌==◌, ◌&&◌, not, List, length}
 use Rattle.std.specs.List.{list_any}
 use Rattle.gm_base.specs.declared.edge.Edge.{Edge}
-use Rattle.gm_base.specs.declared.edge.Key.{Key}
+use Rattle.gm_base.specs.declared.copies.Key.{Key}
 use Rattle.gm_base.specs.declared.job.Outcome.{Outcome}
 use Rattle.gm_base.specs.Graph.{IsSameGraph}
 use Rattle.gm_label.specs.Catalogues.{Catalogue, place_at}

@@ -1,7 +1,7 @@
 -- The jobs of a script by their numbers, in file order: what each of them is, what it sees of a grid, and which copies of the chunks it takes.
 use Rattle.std.specs.Prelude.{ℕ, ◌≤◌, List, [], length, slice_index_or}
 use Rattle.gm_base.specs.declared.edge.Edge.{Edge}
-use Rattle.gm_base.specs.declared.edge.Key.{Key}
+use Rattle.gm_base.specs.declared.copies.Key.{Key}
 use Rattle.gm_base.specs.declared.job.Spec.TheVariants.{Wcc}
 use Rattle.gm_base.specs.declared.limits.TheConstants.{MAX_EDGES}
 use Rattle.gm_base.specs.Dimensions.{AreDimensions}

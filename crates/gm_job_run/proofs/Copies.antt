@@ -5,9 +5,9 @@ use Rattle.std.proofs.Common.{Bool, false, cond, eqb, sym, ap, ◌∙◌, subst}
 use Rattle.std.proofs.lemmas.Bool.{eqb-true}
 use Rattle.std.specs.List.{AllByRecursion}
 use Rattle.std.proofs.lemmas.List.Elements.{All-weaker, All-from_recursion, recursion_from_All}
-use Rattle.gm_base.specs.declared.edge.ChunkCopy.{ChunkCopy}
+use Rattle.gm_base.specs.declared.copies.ChunkCopy.{ChunkCopy}
 use Rattle.gm_base.specs.declared.edge.Edge.{Edge}
-use Rattle.gm_base.specs.declared.edge.Key.{Key}
+use Rattle.gm_base.specs.declared.copies.Key.{Key}
 use Rattle.gm_base.specs.Graph.{HasEndsBelow}
 use Rattle.gm_changes.specs.Concerns.{IsPlaced}
 use Rattle.gm_label.specs.declared.chunk.Overlay.{Overlay}

@@ -1,7 +1,7 @@
 -- What a job's own changes add to a chunk, and whether they concern it.
 use Rattle.std.proofs.Common.{◌≡◌, ℕ, Bool, true, false, cond, List, [], ◌∷◌, ◌++◌, Option, Some, None, append_assoc, append-nil, sym, ap, ◌∙◌, refl}
 use Rattle.std.specs.List.{fold}
-use Rattle.gm_base.specs.declared.edge.Tag.TheVariants.{Own}
+use Rattle.gm_base.specs.declared.copies.Tag.TheVariants.{Own}
 use Rattle.gm_base.specs.Dimensions.{Dimensions}
 use Rattle.gm_changes.specs.declared.change.Change.{Change}
 use Rattle.gm_changes.specs.declared.change.Change.TheVariants.{Add, Cut}

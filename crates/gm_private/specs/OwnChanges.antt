@@ -1,8 +1,8 @@
 -- What the calls of a job's own changes are given, and what its copies are.
 use Rattle.std.specs.Prelude.{◌≡◌, ℕ, ◌≤◌, List, length, All}
-use Rattle.gm_base.specs.declared.edge.ChunkCopy.{ChunkCopy}
+use Rattle.gm_base.specs.declared.copies.ChunkCopy.{ChunkCopy}
 use Rattle.gm_base.specs.declared.edge.Edge.{Edge}
-use Rattle.gm_base.specs.declared.edge.Key.{Key}
+use Rattle.gm_base.specs.declared.copies.Key.{Key}
 use Rattle.gm_changes.specs.declared.change.Change.{Change}
 use Rattle.gm_changes.specs.Changes.{ChangesWithin, edges_after}
 use Rattle.gm_changes.specs.Concerns.{IsPlaced}

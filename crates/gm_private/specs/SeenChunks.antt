@@ -2,7 +2,7 @@
 use Rattle.std.specs.Prelude.{◌≡◌, ℕ, ◌<◌, ◌≤◌, ◌==◌, if◌then◌else◌, List, [], ◌∷◌, ◌++◌, length, fold, Option, Some, None}
 use Rattle.std.specs.Ordering.{nat_cmp}
 use Rattle.std.specs.BTreeMap.{get}
-use Rattle.gm_base.specs.declared.edge.Tag.TheVariants.{Own}
+use Rattle.gm_base.specs.declared.copies.Tag.TheVariants.{Own}
 use Rattle.gm_changes.specs.declared.change.Change.{Change}
 use Rattle.gm_changes.specs.Concerns.{concerns}
 use Rattle.gm_label.specs.declared.chunk.Overlay.{Overlay}

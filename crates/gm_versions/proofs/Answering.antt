@@ -6,9 +6,9 @@ use Rattle.std.proofs.lemmas.List.{get_or_append_left, get_or_push, length_push}
 use Rattle.std.proofs.lemmas.List.Folds.{list_any-append}
 use Rattle.std.proofs.lemmas.List.Elements.{All-from_recursion, recursion_from_All, All-same, All-append}
 use Rattle.gm_base.specs.declared.edge.Edge.{Edge}
-use Rattle.gm_base.specs.declared.edge.Key.{Key}
-use Rattle.gm_base.specs.declared.edge.Tag.{Tag}
-use Rattle.gm_base.specs.declared.edge.Tag.TheVariants.{Update, Own}
+use Rattle.gm_base.specs.declared.copies.Key.{Key}
+use Rattle.gm_base.specs.declared.copies.Tag.{Tag}
+use Rattle.gm_base.specs.declared.copies.Tag.TheVariants.{Update, Own}
 use Rattle.gm_changes.specs.declared.change.Change.{Change}
 use Rattle.gm_changes.specs.Changes.{ChangesWithin, edges_after}
 use Rattle.gm_changes.specs.Concerns.{lists, may_concern, IsPlaced}

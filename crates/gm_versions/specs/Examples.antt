@@ -1,7 +1,7 @@
 -- A small grid whose chunks were changed by hand.
 use Rattle.std.specs.Prelude.{ℕ, List, [], ◌∷◌, map}
 use Rattle.gm_base.specs.declared.edge.Edge.{Edge}
-use Rattle.gm_base.specs.declared.edge.Tag.{Tag}
+use Rattle.gm_base.specs.declared.copies.Tag.{Tag}
 use Rattle.gm_base.specs.Graph.{edge}
 use Rattle.gm_base.specs.Examples.{path_with_shortcut}
 use Rattle.gm_changes.specs.declared.change.Change.{Change}

@@ -4,7 +4,7 @@ use Rattle.std.specs.List.{AllByRecursion, flat_map, list_any}
 use Rattle.std.proofs.lemmas.Bool.{cases_Bool, cases_lt, cond-true, cond-false}
 use Rattle.std.proofs.lemmas.List.Elements.{All-from_recursion, recursion_from_All, All-push, All-filter, All-head, All-tail, All-take, All-drop, All-weaker}
 use Rattle.gm_base.specs.declared.edge.Edge.{Edge}
-use Rattle.gm_base.specs.declared.edge.Tag.TheVariants.{Update, Own}
+use Rattle.gm_base.specs.declared.copies.Tag.TheVariants.{Update, Own}
 use Rattle.gm_base.specs.Dimensions.{Dimensions, AreDimensions, block_of}
 use Rattle.gm_base.specs.DimensionsRules.{block_below}
 use Rattle.gm_base.specs.Graph.{IsSameGraph, HasEndsBelow, IsGraph}

@@ -1,8 +1,8 @@
 -- Overlays by place: the one of a chunk gives its key.
 use Rattle.std.proofs.Common.{◌≡◌, ℕ, zero, suc, ◌+◌, ◌<◌, ◌≤◌, eqb, List, [], ◌∷◌, length, get_or, ◌∙◌, refl, arith}
 use Rattle.std.proofs.lemmas.Bool.{ne_eqb, eq-eqb, cond-true, cond-false}
-use Rattle.gm_base.specs.declared.edge.Key.{Key}
-use Rattle.gm_base.specs.declared.edge.Tag.TheVariants.{Update}
+use Rattle.gm_base.specs.declared.copies.Key.{Key}
+use Rattle.gm_base.specs.declared.copies.Tag.TheVariants.{Update}
 use Rattle.gm_label.specs.declared.chunk.Overlay.{Overlay}
 use Rattle.gm_label.specs.Overlays.{key_at, AscendByChunk}
 

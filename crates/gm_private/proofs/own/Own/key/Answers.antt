@@ -1,6 +1,6 @@
 use Rattle.std.proofs.Common.{ℕ, Bool, cond, sym, ap, ◌∙◌}
-use Rattle.gm_base.specs.declared.edge.Key.{Key}
-use Rattle.gm_base.specs.declared.edge.Tag.TheVariants.{Update, Own}
+use Rattle.gm_base.specs.declared.copies.Key.{Key}
+use Rattle.gm_base.specs.declared.copies.Tag.TheVariants.{Update, Own}
 use Rattle.gm_versions.specs.Views.{Sight, changes_up_to, last_update}
 use Rattle.gm_versions.specs.ViewsRules.{some-concerning}
 use Rattle.gm_private.proofs.own.Own.key.Goals as goal

@@ -1,6 +1,6 @@
 use Rattle.std.proofs.Common.{ℕ, ap, sym, subst, ◌∙◌}
-use Rattle.gm_base.specs.declared.edge.Key.{Key}
-use Rattle.gm_base.specs.declared.edge.Tag.TheVariants.{Update}
+use Rattle.gm_base.specs.declared.copies.Key.{Key}
+use Rattle.gm_base.specs.declared.copies.Tag.TheVariants.{Update}
 use Rattle.gm_versions.specs.Views.{IsVersionKey}
 use Rattle.gm_versions.specs.ViewsRules.{key_of-version}
 use Rattle.gm_versions.proofs.Answering.{last-answered}
