@@ -17,8 +17,11 @@ use Rattle.gm_label.specs.Catalogues.{Catalogue, sources_at, base_at, IsOver}
 use Rattle.gm_versions.specs.declared.histories.Histories.{Histories}
 use Rattle.gm_versions.specs.declared.versions.Versions.{Versions}
 use Rattle.gm_versions.specs.Lists.{joined}
-use Rattle.gm_versions.specs.Views.{site_at, concerning_at, sources_at_after, concerning_next, added_at_after, content_after, changes_up_to, changes_near, last_update, Sight, changes_of_tag, content_of, IsUpdateUpTo, IsVersionKey, update_of}
-use Rattle.gm_versions.specs.ViewsRules.{update_at, concerning-near, base-placed}
+use Rattle.gm_versions.specs.Contents.{site_at, changes_at, sources_at_after, next_changes_at, added_at_after, content_after, changes_up_to, changes_near, last_update}
+use Rattle.gm_versions.specs.Snapshots.{Snapshot}
+use Rattle.gm_versions.specs.Keys.{content_of_key, changes_of_tag, IsUpdateUpTo, IsVersionKey, update_of}
+use Rattle.std.proofs.Math.Seq.{take-append_seam}
+use Rattle.gm_versions.specs.ContentsRules.{changes-taken, update_at, concerning-near, base-placed}
 use Rattle.gm_versions.specs.Histories.{History, last_of, up_to, with_update, history_of, with_change}
 use Rattle.gm_versions.specs.Kept.{history_in, IsLogged, IsKeptBefore, AreNotedFor, IsOf}
 use Rattle.gm_versions.proofs.HistorySteps.{or-commuted, history-up_to, history-now, history-last, history-added, history-lists, history-noted}
@@ -46,18 +49,16 @@ source-answered cat versions version c source is small within =
 
 -- later updates leave the changes before them as they are
 changes-before : (updates more : List (List Change)) (version : ℕ) → version ≤ length updates → changes_up_to (updates ++ more) version ≡ changes_up_to updates version
-changes-before updates more zero small = refl
-changes-before updates more (suc version) small =
-    ap (λ (cs : List Change). cs ++ update_at (updates ++ more) version) (changes-before updates more version (omega arith))
-    ∙ ap (λ (batch : List Change). changes_up_to updates version ++ batch) (get_or_append_left updates more [] version (omega arith))
+changes-before updates more version small =
+    sym (changes-taken (updates ++ more) (length updates) version small) ∙ ap (λ (us : List (List Change)). changes_up_to us version) (take-append_seam updates more)
 
 history-before : (cat : Catalogue) (c : ℕ) (updates more : List (List Change)) (version : ℕ) → version ≤ length updates
     → history_of cat c (updates ++ more) version ≡ history_of cat c updates version
 history-before cat c updates more zero small = refl
 history-before cat c updates more (suc version) small =
-    ap (λ (h : History). with_update (suc version) (concerning_next cat c (changes_up_to (updates ++ more) version) (update_at (updates ++ more) version)) h) (history-before cat c updates more version (omega arith))
-    ∙ ap (λ (cs : List Change). with_update (suc version) (concerning_next cat c cs (update_at (updates ++ more) version)) (history_of cat c updates version)) (changes-before updates more version (omega arith))
-    ∙ ap (λ (batch : List Change). with_update (suc version) (concerning_next cat c (changes_up_to updates version) batch) (history_of cat c updates version)) (get_or_append_left updates more [] version (omega arith))
+    ap (λ (h : History). with_update (suc version) (next_changes_at cat c (changes_up_to (updates ++ more) version) (update_at (updates ++ more) version)) h) (history-before cat c updates more version (omega arith))
+    ∙ ap (λ (cs : List Change). with_update (suc version) (next_changes_at cat c cs (update_at (updates ++ more) version)) (history_of cat c updates version)) (changes-before updates more version (omega arith))
+    ∙ ap (λ (batch : List Change). with_update (suc version) (next_changes_at cat c (changes_up_to updates version) batch) (history_of cat c updates version)) (get_or_append_left updates more [] version (omega arith))
 
 history-next : (cat : Catalogue) (c : ℕ) (updates : List (List Change)) (batch : List Change)
     → fold (with_change cat c (length updates + 1)) (history_of cat c updates (length updates)) batch ≡ history_of cat c (updates ++ batch ∷ []) (length (updates ++ batch ∷ []))
@@ -69,9 +70,9 @@ history-next cat c updates batch =
     let newest : update_at more n ≡ batch = get_or_push updates batch [] n refl in
     ap (λ (k : ℕ). fold (with_change cat c k) (history_of cat c updates n) batch) next
     ∙ history-noted cat c updates n batch
-    ∙ sym (ap (λ (h : History). with_update (suc n) (concerning_next cat c (changes_up_to more n) (update_at more n)) h) (history-before cat c updates (batch ∷ []) n (omega arith))
-    ∙ ap (λ (cs : List Change). with_update (suc n) (concerning_next cat c cs (update_at more n)) (history_of cat c updates n)) (changes-before updates (batch ∷ []) n (omega arith))
-    ∙ ap (λ (b : List Change). with_update (suc n) (concerning_next cat c (changes_up_to updates n) b) (history_of cat c updates n)) newest)
+    ∙ sym (ap (λ (h : History). with_update (suc n) (next_changes_at cat c (changes_up_to more n) (update_at more n)) h) (history-before cat c updates (batch ∷ []) n (omega arith))
+    ∙ ap (λ (cs : List Change). with_update (suc n) (next_changes_at cat c cs (update_at more n)) (history_of cat c updates n)) (changes-before updates (batch ∷ []) n (omega arith))
+    ∙ ap (λ (b : List Change). with_update (suc n) (next_changes_at cat c (changes_up_to updates n) b) (history_of cat c updates n)) newest)
     ∙ ap (history_of cat c more) long
 
 -- the ends of a further update's changes are vertices too
@@ -141,10 +142,10 @@ pub update-within : (count : ℕ) (tag : Tag) → IsUpdateUpTo count tag → upd
 update-within count (Update t) small = small
 update-within count (Own job) small = absurd small
 
-tag-changes : (updates : List (List Change)) (sight_of : ℕ → Sight) (count : ℕ) (tag : Tag) → IsUpdateUpTo count tag
-    → changes_up_to updates (update_of tag) ≡ changes_of_tag updates sight_of tag
-tag-changes updates sight_of count (Update t) small = refl
-tag-changes updates sight_of count (Own job) small = absurd small
+tag-changes : (updates : List (List Change)) (snapshot_of : ℕ → Snapshot) (count : ℕ) (tag : Tag) → IsUpdateUpTo count tag
+    → changes_up_to updates (update_of tag) ≡ changes_of_tag updates snapshot_of tag
+tag-changes updates snapshot_of count (Update t) small = refl
+tag-changes updates snapshot_of count (Own job) small = absurd small
 
 -- the updates up to a version that concern a chunk
 pub numbers-answered : (cat : Catalogue) (versions : Versions) (version c : ℕ) → IsOf cat versions → version ≤ length versions.batches → c < length cat.places
@@ -154,25 +155,25 @@ numbers-answered cat versions version c is small within = ap (λ (h : History). 
 -- their changes, as far as they may concern the chunk, make the chunk's edges those of the version
 pub copied-placed : (cat : Catalogue) (updates : List (List Change)) (version c : ℕ) (raw : List Edge) → All (IsPlaced cat.dimensions (site_at cat c) (sources_at cat c)) raw
     → edges_after (filter (may_concern cat.dimensions (site_at cat c)) (changes_near cat updates c version)) raw
-    ≡ edges_after (concerning_at cat c (changes_up_to updates version)) raw
+    ≡ edges_after (changes_at cat c (changes_up_to updates version)) raw
 copied-placed cat updates version c raw placed =
     let d = cat.dimensions in
     let site = site_at cat c in
     sym (left_out_by_block d site (sources_at cat c) (changes_near cat updates c version) raw (recursion_from_All (IsPlaced d site (sources_at cat c)) raw placed))
     ∙ ap (λ (cs : List Change). edges_after cs raw) (concerning-near cat updates c version)
 
-pub copied-content : (cat : Catalogue) (updates : List (List Change)) (key : Key) (c : ℕ) (raw edges : List Edge) (sight_of : ℕ → Sight)
+pub copied-content : (cat : Catalogue) (updates : List (List Change)) (key : Key) (c : ℕ) (raw edges : List Edge) (snapshot_of : ℕ → Snapshot)
     → IsVersionKey (length updates) c key → IsOver cat edges → raw ≡ base_at cat edges c
     → edges_after (filter (may_concern cat.dimensions (site_at cat c)) (changes_near cat updates c (update_of key.tag))) raw
-    ≡ content_of cat edges updates sight_of key
-copied-content cat updates key c raw edges sight_of names over base =
+    ≡ content_of_key cat edges updates snapshot_of key
+copied-content cat updates key c raw edges snapshot_of names over base =
     let Placed = IsPlaced cat.dimensions (site_at cat c) (sources_at cat c) in
     let placed : All Placed raw =
     subst (λ (xs : List Edge). All Placed xs) (sym base) (All-from_recursion Placed (base_at cat edges c) (base-placed cat edges over c)) in
     copied-placed cat updates (update_of key.tag) c raw placed
-    ∙ ap (edges_after (concerning_at cat c (changes_up_to updates (update_of key.tag)))) base
-    ∙ ap (λ (cs : List Change). content_after cat edges cs c) (tag-changes updates sight_of (length updates) key.tag names.update)
-    ∙ ap (content_after cat edges (changes_of_tag updates sight_of key.tag)) (sym names.chunk)
+    ∙ ap (edges_after (changes_at cat c (changes_up_to updates (update_of key.tag)))) base
+    ∙ ap (λ (cs : List Change). content_after cat edges cs c) (tag-changes updates snapshot_of (length updates) key.tag names.update)
+    ∙ ap (content_after cat edges (changes_of_tag updates snapshot_of key.tag)) (sym names.chunk)
 
 pub added-answered : (cat : Catalogue) (versions : Versions) (version c : ℕ) → IsOf cat versions → version ≤ length versions.batches → c < length cat.places
     → joined (up_to version (history_in versions.histories c)).added ≡ added_at_after cat c (changes_up_to versions.batches version)

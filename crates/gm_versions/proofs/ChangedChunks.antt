@@ -9,9 +9,9 @@ use Rattle.gm_label.specs.declared.chunk.Overlay.{Overlay}
 use Rattle.gm_label.specs.Catalogues.{Catalogue}
 use Rattle.gm_versions.specs.declared.versions.Versions.{Versions}
 use Rattle.gm_versions.specs.Lists.{joined}
-use Rattle.gm_versions.specs.Views.{concerning_at, added_at_after, changes_up_to, is_some_change, last_update, sight_of_version, changes_seen, is_changed, overlay_of, overlays_of}
-use Rattle.gm_versions.specs.ViewsRules.{none_is, concerning-up_to_last}
-use Rattle.gm_versions.specs.OverlaysRules.{no_update}
+use Rattle.gm_versions.specs.Contents.{changes_at, added_at_after, changes_up_to, all_changes, is_some_change, last_update}
+use Rattle.gm_versions.specs.Snapshots.{version_of, changes_of, added_sources_of, is_changed, overlay_of, overlays_of}
+use Rattle.gm_versions.specs.ContentsRules.{none_is, no_update, concerning-up_to_last, all-taken, last-all_taken}
 use Rattle.gm_versions.specs.WalksRules.{told_of, told_in, told-filtered}
 use Rattle.gm_versions.specs.Histories.{History, no_history, last_of, up_to, history_of, overlay_in, overlays_in}
 use Rattle.gm_versions.specs.Kept.{history_in, IsOf}
@@ -34,43 +34,45 @@ made version c h now is =
     ap (λ (n : History). cond (eqb (last_of n.updates) 0) [] (record { key = record { chunk = c; tag = Update (last_of n.updates) }; added = joined n.added } ∷ [])) is
 
 unchanged-last : (cat : Catalogue) (updates : List (List Change)) (c version : ℕ)
-    → eqb (last_update cat updates c version) 0 ≡ not (is_some_change (concerning_at cat c (changes_up_to updates version)))
+    → eqb (last_update cat updates c version) 0 ≡ not (is_some_change (changes_at cat c (changes_up_to updates version)))
 unchanged-last cat updates c version =
-    let seen = concerning_at cat c (changes_up_to updates version) in
+    let seen = changes_at cat c (changes_up_to updates version) in
     let last = last_update cat updates c version in
     let at : (b : Bool) → is_some_change seen ≡ b → eqb last 0 ≡ not b = elim [
       | true ↦ λ some. ne_eqb last 0 (λ zero_.
-          let none : seen ≡ [] = sym (concerning-up_to_last cat updates c version) ∙ ap (λ (t : ℕ). concerning_at cat c (changes_up_to updates t)) zero_ in
+          let none : seen ≡ [] = sym (concerning-up_to_last cat updates c version) ∙ ap (λ (t : ℕ). changes_at cat c (changes_up_to updates t)) zero_ in
           let contrary : false ≡ true = sym (ap is_some_change none) ∙ some in absurd (cc))
       | false ↦ λ none. eq-eqb last 0 (no_update cat updates c version (none_is seen none))
     ] in
     at (is_some_change seen) refl
 
 -- a history at a version tells the overlay of its chunk
-history-overlay : (cat : Catalogue) (updates : List (List Change)) (version c : ℕ) (h : History) → up_to version h ≡ history_of cat c updates version
-    → overlay_in version c h ≡ cond (is_changed cat updates (sight_of_version version) c) (overlay_of cat updates (sight_of_version version) c ∷ []) []
-history-overlay cat updates version c h is =
+history-overlay : (cat : Catalogue) (updates : List (List Change)) (version c : ℕ) (h : History) → version ≤ length updates → up_to version h ≡ history_of cat c updates version
+    → overlay_in version c h ≡ cond (is_changed cat (version_of updates version) c) (overlay_of cat (version_of updates version) c ∷ []) []
+history-overlay cat updates version c h small is =
     let now = history_of cat c updates version in
     let last = last_update cat updates c version in
     let changes = changes_up_to updates version in
     let overlay = λ (t : ℕ) (added : List ℕ). let o : Overlay = record { key = record { chunk = c; tag = Update t }; added = added } in o in
-    let seen : changes_seen updates (sight_of_version version) ≡ changes = append-nil changes in
+    let s = version_of updates version in
+    let seen : changes_of s ≡ changes = append-nil (all_changes s.updates) ∙ all-taken updates version small in
     let turned : (b : Bool) (os : List Overlay) → cond (not b) [] os ≡ cond b os [] = elim [ true ↦ λ os. refl | false ↦ λ os. refl ] in
     made version c h now is
     ∙ ap (λ (t : ℕ). cond (eqb t 0) [] (overlay t (joined now.added) ∷ [])) (history-last cat c updates version)
     ∙ ap (λ (added : List ℕ). cond (eqb last 0) [] (overlay last added ∷ [])) (history-added cat c updates version)
     ∙ ap (λ (b : Bool). cond b [] (overlay last (added_at_after cat c changes) ∷ [])) (unchanged-last cat updates c version)
-    ∙ turned (is_some_change (concerning_at cat c changes)) (overlay last (added_at_after cat c changes) ∷ [])
-    ∙ ap (λ (cs : List Change). cond (is_some_change (concerning_at cat c cs)) (overlay last (added_at_after cat c cs) ∷ []) []) (sym seen)
+    ∙ turned (is_some_change (changes_at cat c changes)) (overlay last (added_at_after cat c changes) ∷ [])
+    ∙ ap (λ (cs : List Change). cond (is_some_change (changes_at cat c cs)) (overlay last (added_at_after cat c cs) ∷ []) []) (sym seen)
+    ∙ ap (λ (t : ℕ). cond (is_changed cat s c) (overlay t (added_sources_of cat s c) ∷ []) []) (sym (last-all_taken cat updates c version small))
 
 pub overlays-answered : (cat : Catalogue) (versions : Versions) (version : ℕ) → IsOf cat versions → version ≤ length versions.batches → IsOrdered nat_cmp versions.histories.changed
-    → overlays_in version versions.histories.changed.entries ≡ overlays_of cat versions.batches (sight_of_version version)
+    → overlays_in version versions.histories.changed.entries ≡ overlays_of cat (version_of versions.batches version)
 overlays-answered cat versions version is small ordered =
     let entries = versions.histories.changed.entries in
-    let sight = sight_of_version version in
+    let s = version_of versions.batches version in
     told-entries version entries
-    ∙ told-filtered (overlay_in version) (length cat.places) entries (overlay_of cat versions.batches sight) (is_changed cat versions.batches sight) ordered
+    ∙ told-filtered (overlay_in version) (length cat.places) entries (overlay_of cat s) (is_changed cat s) ordered
     (λ c within.
     told-history version c (get nat_cmp versions.histories.changed c)
-    ∙ history-overlay cat versions.batches version c (history_in versions.histories c) (at_version cat versions version c is small within))
+    ∙ history-overlay cat versions.batches version c (history_in versions.histories c) small (at_version cat versions version c is small within))
     (λ c past. told-history version c (get nat_cmp versions.histories.changed c) ∙ ap (overlay_in version c) (is.beyond c past))

@@ -6,8 +6,8 @@ use Rattle.std.proofs.lemmas.List.Elements.{filter-append, All-nil, All-push, Al
 use Rattle.std.proofs.lemmas.List.Concat.{flat_map-append}
 use Rattle.gm_changes.specs.declared.change.Change.{Change}
 use Rattle.gm_label.specs.Catalogues.{Catalogue}
-use Rattle.gm_versions.specs.Views.{changes_near, is_some_change}
-use Rattle.gm_versions.specs.ViewsRules.{update_at, next_at}
+use Rattle.gm_versions.specs.Contents.{changes_near, is_some_change, update_changes_at}
+use Rattle.gm_versions.specs.ContentsRules.{update_at}
 use Rattle.gm_versions.specs.Histories.{History, history_of, with_update}
 
 -- the changes of updates by their numbers, counted from 1
@@ -32,7 +32,7 @@ pub near-history : (cat : Catalogue) (updates : List (List Change)) (c version :
     → batches_of updates (history_of cat c updates version).updates ≡ changes_near cat updates c version
 near-history cat updates c zero = refl
 near-history cat updates c (suc version) =
-    let next = next_at cat updates c version in
+    let next = update_changes_at cat updates c version in
     let batch = update_at updates version in
     with-update updates next (history_of cat c updates version) version
     ∙ ap (λ (cs : List Change). cond (is_some_change next) (cs ++ batch) cs) (near-history cat updates c version)
@@ -63,4 +63,4 @@ numbers_within cat updates c (suc version) =
       | [] ↦ before
       | change ∷ next ↦ All-push Fits h.updates (suc version) before (omega arith, omega arith)
     ] in
-    at (next_at cat updates c version)
+    at (update_changes_at cat updates c version)

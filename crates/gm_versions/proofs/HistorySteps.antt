@@ -14,9 +14,8 @@ use Rattle.gm_changes.specs.Concerns.{lists, concerns, concerning, sources_after
 use Rattle.gm_label.specs.Catalogues.{Catalogue, sources_at}
 use Rattle.gm_versions.specs.Lists.{joined, extend_last}
 use Rattle.gm_versions.proofs.FlatLists.{extend_last-none}
-use Rattle.gm_versions.specs.Views.{site_at, concerning_at, sources_at_after, concerning_next, added_sources, added_at_after, changes_up_to, is_some_change, last_update}
-use Rattle.gm_versions.specs.ViewsRules.{added_sources-append, added-in_parts, update_at, next_at, last-le}
-use Rattle.gm_versions.specs.OverlaysRules.{lists-after}
+use Rattle.gm_versions.specs.Contents.{site_at, changes_at, sources_at_after, next_changes_at, added_sources, added_at_after, changes_up_to, is_some_change, last_update, update_changes_at}
+use Rattle.gm_versions.specs.ContentsRules.{added_sources-append, added-in_parts, update_at, last-le, lists-after}
 use Rattle.gm_versions.specs.Histories.{History, last_of, count_up_to, up_to, with_update, history_of, with_touch, with_change}
 
 joined-append : (xs ys : List (List ℕ)) → joined (xs ++ ys) ≡ joined xs ++ joined ys
@@ -125,7 +124,7 @@ pub history-added : (cat : Catalogue) (c : ℕ) (updates : List (List Change)) (
 history-added cat c updates zero = refl
 history-added cat c updates (suc version) =
     let before = changes_up_to updates version in
-    let next = next_at cat updates c version in
+    let next = update_changes_at cat updates c version in
     joined-with_update (suc version) next (history_of cat c updates version)
     ∙ ap (λ (ss : List ℕ). ss ++ added_sources next) (history-added cat c updates version)
     ∙ sym (added-in_parts cat c before (update_at updates version))
@@ -136,7 +135,7 @@ pub history-lists : (cat : Catalogue) (c : ℕ) (updates : List (List Change)) (
 history-lists cat c updates version u =
     let base = sources_at cat c in
     let added = added_at_after cat c (changes_up_to updates version) in
-    lists-after (concerning_at cat c (changes_up_to updates version)) base u
+    lists-after (changes_at cat c (changes_up_to updates version)) base u
     ∙ or-commuted (lists base u) (lists added u)
     ∙ sym (ap (λ (ss : List ℕ). lists (ss ++ base) u) (history-added cat c updates version) ∙ list_any-append (λ (s : ℕ). eqb s u) added base)
 
@@ -149,14 +148,14 @@ pub history-last : (cat : Catalogue) (c : ℕ) (updates : List (List Change)) (v
     → last_of (history_of cat c updates version).updates ≡ last_update cat updates c version
 history-last cat c updates zero = refl
 history-last cat c updates (suc version) =
-    let next = next_at cat updates c version in
+    let next = update_changes_at cat updates c version in
     last_of-with_update (suc version) next (history_of cat c updates version)
     ∙ ap (λ (t : ℕ). cond (is_some_change next) (suc version) t) (history-last cat c updates version)
 
 -- the changes of the next update, one after another, lead to the history after it
 pub history-noted : (cat : Catalogue) (c : ℕ) (updates : List (List Change)) (version : ℕ) (batch : List Change)
     → fold (with_change cat c (suc version)) (history_of cat c updates version) batch
-    ≡ with_update (suc version) (concerning_next cat c (changes_up_to updates version) batch) (history_of cat c updates version)
+    ≡ with_update (suc version) (next_changes_at cat c (changes_up_to updates version) batch) (history_of cat c updates version)
 history-noted cat c updates version batch =
     let h = history_of cat c updates version in
     let small = last-le cat updates c version in
@@ -174,7 +173,7 @@ pub history-even : (cat : Catalogue) (c : ℕ) (updates : List (List Change)) (v
     → length (history_of cat c updates version).updates ≡ length (history_of cat c updates version).added
 history-even cat c updates zero = refl
 history-even cat c updates (suc version) =
-    length-with_update (suc version) (next_at cat updates c version) (history_of cat c updates version) (history-even cat c updates version)
+    length-with_update (suc version) (update_changes_at cat updates c version) (history_of cat c updates version) (history-even cat c updates version)
 
 -- a later update doesn't count
 count-later : (version number : ℕ) (updates : List ℕ) → version < number → count_up_to version (updates ++ number ∷ []) ≡ count_up_to version updates
@@ -261,7 +260,7 @@ small-with_update version (c ∷ changes) h small = small-push (suc version) (su
 history-small : (cat : Catalogue) (c : ℕ) (updates : List (List Change)) (version : ℕ) → AllByRecursion (λ u. u ≤ version) (history_of cat c updates version).updates
 history-small cat c updates zero = tt
 history-small cat c updates (suc version) =
-    small-with_update version (next_at cat updates c version) (history_of cat c updates version) (history-small cat c updates version)
+    small-with_update version (update_changes_at cat updates c version) (history_of cat c updates version) (history-small cat c updates version)
 
 -- all of a history, where nothing in it is later
 up_to-all : (version : ℕ) (h : History) → length h.updates ≡ length h.added → AllByRecursion (λ u. u ≤ version) h.updates → up_to version h ≡ h
@@ -280,7 +279,7 @@ history-then cat c updates version zero =
 history-then cat c updates version (suc more) =
     let next : suc more + version ≡ suc (more + version) = omega arith in
     ap (λ (v : ℕ). up_to version (history_of cat c updates v)) next
-    ∙ up_to-with_update version (suc (more + version)) (next_at cat updates c (more + version)) (history_of cat c updates (more + version)) (omega arith) (history-even cat c updates (more + version))
+    ∙ up_to-with_update version (suc (more + version)) (update_changes_at cat updates c (more + version)) (history_of cat c updates (more + version)) (omega arith) (history-even cat c updates (more + version))
     ∙ history-then cat c updates version more
 
 -- a history at an earlier version

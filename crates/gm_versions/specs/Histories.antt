@@ -7,7 +7,7 @@ use Rattle.gm_base.specs.declared.copies.Tag.TheVariants.{Update}
 use Rattle.gm_label.specs.declared.chunk.Overlay.{Overlay}
 use Rattle.gm_label.specs.Catalogues.{Catalogue, sources_at}
 use Rattle.gm_versions.specs.Lists.{joined, extend_last}
-use Rattle.gm_versions.specs.Views.{site_at, concerning_next, added_sources, changes_up_to, is_some_change}
+use Rattle.gm_versions.specs.Contents.{site_at, next_changes_at, added_sources, changes_up_to, is_some_change}
 
 -- the updates that concern a chunk, ascending, and beside each the sources of the edges that it added there
 pub record History : Type 0 where
@@ -43,7 +43,7 @@ with_update number changes h =
 abbrev pub history_of : Catalogue → ℕ → List (List Change) → ℕ → History
 history_of cat c updates zero = no_history
 history_of cat c updates (suc version) =
-    with_update (suc version) (concerning_next cat c (changes_up_to updates version) (slice_index_or updates version [])) (history_of cat c updates version)
+    with_update (suc version) (next_changes_at cat c (changes_up_to updates version) (slice_index_or updates version [])) (history_of cat c updates version)
 
 -- one change more of an update, which adds these sources
 abbrev pub with_touch : ℕ → List ℕ → History → History

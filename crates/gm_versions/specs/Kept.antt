@@ -12,7 +12,9 @@ use Rattle.gm_changes.specs.Concerns.{IsPlaced}
 use Rattle.gm_label.specs.Catalogues.{Catalogue, sources_at, base_at, IsOver}
 use Rattle.gm_versions.specs.declared.histories.Histories.{Histories}
 use Rattle.gm_versions.specs.declared.versions.Versions.{Versions}
-use Rattle.gm_versions.specs.Views.{site_at, concerning_at, changes_up_to, Sight, content_of, update_of}
+use Rattle.gm_versions.specs.Contents.{site_at, changes_at, changes_up_to}
+use Rattle.gm_versions.specs.Snapshots.{Snapshot}
+use Rattle.gm_versions.specs.Keys.{content_of_key, update_of}
 use Rattle.gm_versions.specs.Histories.{History, no_history, last_of, up_to, history_of, with_change}
 
 -- a chunk's history
@@ -53,6 +55,6 @@ pub record IsOf (cat : Catalogue) (versions : Versions) : Type 0 where
 pub record IsCopy (cat : Catalogue) (versions : Versions) (c : ℕ) (edges : List Edge) (key : Key) (copy : ChunkCopy) : Type 0 where
   pub of_key : copy.key ≡ key
   pub changed : All (IsPlaced cat.dimensions (site_at cat c) (sources_at cat c)) edges
-      → copy.edges ≡ edges_after (concerning_at cat c (changes_up_to versions.batches (update_of key.tag))) edges
-  pub content : (grid : List Edge) (sight_of : ℕ → Sight) → IsOver cat grid → edges ≡ base_at cat grid c
-      → copy.edges ≡ content_of cat grid versions.batches sight_of key
+      → copy.edges ≡ edges_after (changes_at cat c (changes_up_to versions.batches (update_of key.tag))) edges
+  pub content : (grid : List Edge) (snapshot_of : ℕ → Snapshot) → IsOver cat grid → edges ≡ base_at cat grid c
+      → copy.edges ≡ content_of_key cat grid versions.batches snapshot_of key

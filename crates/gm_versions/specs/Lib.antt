@@ -1,9 +1,11 @@
 pub mod Lists
-pub mod Views
-pub mod ViewsRules
+pub mod Contents
+pub mod Snapshots
+pub mod Keys
+pub mod ContentsRules
 pub mod Reaches
 pub mod WalksRules
-pub mod OverlaysRules
+pub mod SnapshotsRules
 pub mod Histories
 pub mod Kept
 pub mod Examples

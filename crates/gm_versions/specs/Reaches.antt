@@ -3,7 +3,7 @@ use Rattle.std.specs.Prelude.{◌≡◌, ℕ, ◌<◌, ◌≤◌, ◌⊎◌, fal
 use Rattle.gm_changes.specs.declared.change.Change.{Change}
 use Rattle.gm_changes.specs.Concerns.{concerns}
 use Rattle.gm_label.specs.Catalogues.{Catalogue}
-use Rattle.gm_versions.specs.Views.{site_at}
+use Rattle.gm_versions.specs.Contents.{site_at}
 
 -- from here on and before there stand all chunks that the change concerns, whatever their sources are
 pub record IsReachOf (cat : Catalogue) (change : Change) (first end : ℕ) : Type 0 where

@@ -2,7 +2,7 @@
 
 ghost use Rattle.std.specs.Prelude.{◌≡◌, ◌-◌, ◌<◌, ◌≤◌, [], ◌∷◌, ◌++◌, length, slice_index_or, OnOk, OnErr};
 ghost use Rattle.gm_base.specs.declared.limits.TheConstants.{MAX_CHANGES};
-ghost use Rattle.gm_versions.specs.Views.{changes_up_to};
+ghost use Rattle.gm_versions.specs.Contents.{changes_up_to};
 
 use crate::lists::Lists;
 use gm_base::Memory;

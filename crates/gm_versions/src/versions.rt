@@ -7,7 +7,9 @@ ghost use Rattle.gm_changes.specs.Changes.{ChangesWithin, edges_after};
 ghost use Rattle.gm_changes.specs.Concerns.{lists, concerns, may_concern};
 ghost use Rattle.gm_label.specs.Catalogues.{Catalogue as Known};
 ghost use Rattle.gm_label.specs.Overlays.{AreOverlays};
-ghost use Rattle.gm_versions.specs.Views.{site_at, sources_at_after, added_at_after, changes_up_to, changes_near, sight_of_version, key_of, overlays_of, IsVersionKey, update_of};
+ghost use Rattle.gm_versions.specs.Contents.{site_at, sources_at_after, added_at_after, changes_up_to, changes_near};
+ghost use Rattle.gm_versions.specs.Snapshots.{version_of, key_of, overlays_of};
+ghost use Rattle.gm_versions.specs.Keys.{IsVersionKey, update_of};
 ghost use Rattle.gm_versions.specs.Kept.{IsOf, IsKeptBefore, AreNotedFor, IsCopy};
 
 use crate::batches::Batches;
@@ -101,7 +103,7 @@ impl Versions {
         requires catalogue { IsOf cat.now self.now }
         requires version { version ≤ length self.now.batches }
         requires chunk { chunk < length cat.now.places }
-        ensures value { result ≡ key_of cat.now self.now.batches (sight_of_version version) chunk }
+        ensures value { result ≡ key_of cat.now (version_of self.now.batches version) chunk }
         ensures names { IsVersionKey (length self.now.batches) chunk result }
     {
         let tag = Tag::Update(self.histories.last_up_to(version, chunk));
@@ -225,7 +227,7 @@ impl Versions {
     pub fn overlays(&self, alloc: Global, cat: &Catalogue, version: u32) -> Result<Overlays, Memory>
         requires catalogue { IsOf cat.now self.now }
         requires version { version ≤ length self.now.batches }
-        ensures value { IfOk result (λ overlays. overlays ≡ overlays_of cat.now self.now.batches (sight_of_version version)) }
+        ensures value { IfOk result (λ overlays. overlays ≡ overlays_of cat.now (version_of self.now.batches version)) }
         ensures fit { IfOk result (AreOverlays cat.now) }
     {
         self.histories.overlays(alloc, version)

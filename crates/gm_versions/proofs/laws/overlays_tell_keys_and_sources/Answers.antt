@@ -1,4 +1,4 @@
-use Rattle.gm_versions.specs.OverlaysRules.{overlays-are}
+use Rattle.gm_versions.specs.SnapshotsRules.{overlays-are}
 use Rattle.gm_versions.proofs.laws.overlays_tell_keys_and_sources.Goals as goal
 
 pub returns-clause-overlays : goal.returns-clause-overlays

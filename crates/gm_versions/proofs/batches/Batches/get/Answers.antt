@@ -2,8 +2,8 @@ use Rattle.std.proofs.Common.{suc, ◌≡◌, ◌-◌, List, ◌++◌, length, t
 use Rattle.std.proofs.lemmas.List.{take_all, length-append}
 use Rattle.std.proofs.Math.Seq.{drop-append_seam}
 use Rattle.gm_changes.specs.declared.change.Change.{Change}
-use Rattle.gm_versions.specs.Views.{changes_up_to}
-use Rattle.gm_versions.specs.ViewsRules.{update_at}
+use Rattle.gm_versions.specs.Contents.{changes_up_to}
+use Rattle.gm_versions.specs.ContentsRules.{update_at}
 use Rattle.gm_versions.proofs.batches.Batches.get.Goals as goal
 
 -- behind the changes of the updates before it

@@ -1,5 +1,5 @@
 use Rattle.std.proofs.Common.{ap, length, ◌∙◌, arith}
-use Rattle.gm_versions.specs.Views.{changes_up_to}
+use Rattle.gm_versions.specs.Contents.{changes_up_to}
 use Rattle.gm_versions.proofs.HistorySteps.{changes-joined}
 use Rattle.gm_versions.proofs.batches.Batches.up_to.Goals as goal
 

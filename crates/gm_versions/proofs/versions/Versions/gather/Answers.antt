@@ -4,7 +4,7 @@ use Rattle.std.proofs.lemmas.List.{drop_all}
 use Rattle.std.proofs.lemmas.List.Elements.{All-get_or}
 use Rattle.gm_changes.specs.declared.change.Change.{Change}
 use Rattle.gm_changes.specs.Concerns.{may_concern}
-use Rattle.gm_versions.specs.Views.{site_at}
+use Rattle.gm_versions.specs.Contents.{site_at}
 use Rattle.gm_versions.proofs.Answering.{numbers-answered}
 use Rattle.gm_versions.proofs.Gathering.{batches_of, near-history, numbers_within}
 use Rattle.gm_versions.proofs.versions.Versions.gather.Goals as goal

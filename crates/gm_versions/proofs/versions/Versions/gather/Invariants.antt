@@ -1,7 +1,7 @@
 use Rattle.std.proofs.Common.{◌≡◌, ◌++◌, drop}
 use Rattle.std.specs.List.{filter}
 use Rattle.gm_changes.specs.Concerns.{may_concern}
-use Rattle.gm_versions.specs.Views.{site_at}
+use Rattle.gm_versions.specs.Contents.{site_at}
 use Rattle.gm_versions.proofs.Gathering.{batches_of}
 use Rattle.gm_versions.proofs.versions.Versions.gather.Given as goal
 

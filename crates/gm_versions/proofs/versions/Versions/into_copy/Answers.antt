@@ -3,7 +3,7 @@ use Rattle.std.specs.List.{filter}
 use Rattle.gm_changes.specs.declared.change.Change.{Change}
 use Rattle.gm_changes.specs.Changes.{edges_after}
 use Rattle.gm_changes.specs.Concerns.{may_concern}
-use Rattle.gm_versions.specs.Views.{changes_near, site_at}
+use Rattle.gm_versions.specs.Contents.{changes_near, site_at}
 use Rattle.gm_versions.proofs.Answering.{update-within, copied-placed, copied-content}
 use Rattle.gm_versions.proofs.versions.Versions.into_copy.Goals as goal
 
@@ -22,5 +22,5 @@ returns c =
     record {
       of_key = refl;
       changed = λ placed. made ∙ copied-placed cat updates _ chunk c.args.raw.edges placed;
-      content = λ grid sight_of over base. made ∙ copied-content cat updates c.args.key chunk c.args.raw.edges grid sight_of c.requires.key over base;
+      content = λ grid snapshot_of over base. made ∙ copied-content cat updates c.args.key chunk c.args.raw.edges grid snapshot_of c.requires.key over base;
     }

@@ -4,26 +4,26 @@ use Rattle.std.proofs.lemmas.List.Elements.{All-same}
 use Rattle.gm_label.specs.declared.chunk.Overlay.{Overlay}
 use Rattle.gm_label.specs.Overlays.{AreOverlays}
 use Rattle.gm_changes.specs.Changes.{ChangesWithin}
-use Rattle.gm_versions.specs.Views.{changes_up_to, changes_seen, sight_of_version, overlays_of}
-use Rattle.gm_versions.specs.OverlaysRules.{overlays-are}
+use Rattle.gm_versions.specs.Contents.{changes_up_to, all_changes}
+use Rattle.gm_versions.specs.Snapshots.{version_of, changes_of, overlays_of}
+use Rattle.gm_versions.specs.ContentsRules.{all-taken}
+use Rattle.gm_versions.specs.SnapshotsRules.{overlays-are}
 use Rattle.gm_versions.specs.Histories.{overlays_in}
 use Rattle.gm_versions.proofs.ChangedChunks.{overlays-answered}
 use Rattle.gm_versions.proofs.versions.Versions.overlays.Goals as goal
 
 pub returns-clause-value : goal.returns-clause-value
 returns-clause-value c =
-    let entries = c.args.self.now.histories.changed.entries in
     let same = overlays-answered c.args.cat.now c.args.self.now c.args.version c.requires.catalogue c.requires.version c.overlays.ensures.ordered in
-    IfOk-weaker _ (λ (overlays : List Overlay). overlays ≡ overlays_in c.args.version entries)
-    (λ (overlays : List Overlay). overlays ≡ overlays_of c.args.cat.now c.args.self.now.batches (sight_of_version c.args.version))
+    IfOk-weaker _ (λ (overlays : List Overlay). overlays ≡ overlays_in c.args.version c.args.self.now.histories.changed.entries)
+    (λ (overlays : List Overlay). overlays ≡ overlays_of c.args.cat.now (version_of c.args.self.now.batches c.args.version))
     (λ overlays is. is ∙ same) c.overlays.ensures.value
 
 pub returns-clause-fit : goal.returns-clause-fit
 returns-clause-fit c =
     let cat = c.args.cat.now in
-    let batches = c.args.self.now.batches in
-    let seen = changes_seen batches (sight_of_version c.args.version) in
-    let within = All-same (ChangesWithin cat.dimensions.n) seen (changes_up_to batches c.args.version) (append-nil (changes_up_to batches c.args.version))
-    (c.requires.catalogue.ends c.args.version c.requires.version) in
-    IfOk-weaker _ (λ (overlays : List Overlay). overlays ≡ overlays_of cat batches (sight_of_version c.args.version)) (AreOverlays cat)
-    (λ overlays is. subst (AreOverlays cat) (sym is) (overlays-are cat batches (sight_of_version c.args.version) within)) (returns-clause-value c)
+    let s = version_of c.args.self.now.batches c.args.version in
+    let within = All-same (ChangesWithin cat.dimensions.n) (changes_of s) (changes_up_to c.args.self.now.batches c.args.version)
+    (append-nil (all_changes s.updates) ∙ all-taken c.args.self.now.batches c.args.version c.requires.version) (c.requires.catalogue.ends c.args.version c.requires.version) in
+    IfOk-weaker _ (λ (overlays : List Overlay). overlays ≡ overlays_of cat s) (AreOverlays cat)
+    (λ overlays is. subst (AreOverlays cat) (sym is) (overlays-are cat s within)) (returns-clause-value c)

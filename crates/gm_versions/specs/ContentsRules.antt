@@ -1,5 +1,5 @@
--- What proofs need of keys and contents: what a key stands for, and where the edges of a content lie.
-use Rattle.std.proofs.Common.{◌≡◌, ℕ, zero, suc, ◌+◌, ◌*◌, ◌<◌, ◌≤◌, Bool, true, false, cond, not, ◌||◌, List, [], ◌∷◌, ◌++◌, All, get_or, append-nil, sym, ap, ◌∙◌, refl, subst, arith, inl, inr}
+-- What proofs need of chunks after changes: which changes suffice, and where the edges of a content lie.
+use Rattle.std.proofs.Common.{◌≡◌, ℕ, zero, suc, ◌+◌, ◌*◌, ◌<◌, ◌≤◌, Bool, true, false, cond, not, ◌||◌, ◌&&◌, eqb, List, [], ◌∷◌, ◌++◌, length, take, drop, All, get_or, append-nil, sym, ap, ◌∙◌, refl, subst, arith, inl, inr}
 use Rattle.std.specs.List.{AllByRecursion, flat_map, list_any}
 use Rattle.std.proofs.lemmas.Bool.{cases_Bool, cases_lt, cond-true, cond-false}
 use Rattle.std.proofs.lemmas.List.Elements.{All-from_recursion, recursion_from_All, All-push, All-filter, All-head, All-tail, All-take, All-drop, All-weaker}
@@ -16,8 +16,11 @@ use Rattle.gm_changes.specs.ChangesRules.{edges-parts}
 use Rattle.gm_changes.specs.Concerns.{Site, lists, concerns, concerning, sources_after, sources_after_one, IsPlaced, AddsWithin}
 use Rattle.gm_changes.specs.ConcernsRules.{concerning-parts, placed_after}
 use Rattle.gm_changes.specs.JoinedRules.{joined_over_chunks}
-use Rattle.gm_label.specs.Catalogues.{Catalogue, place_at, sources_at, base_at, chunk_numbers, IsOver}
-use Rattle.gm_versions.specs.Views.{added_sources, added_at_after, IsVersionKey, site_at, concerning_at, sources_at_after, concerning_next, content_after, changes_up_to, changes_near, is_some_change, last_update, Sight, changes_seen, view_of, key_of, changes_of_tag, content_of}
+use Rattle.std.proofs.Math.Seq.{take-append_seam}
+use Rattle.std.proofs.lemmas.List.{get_or_past, get_or-take, length-take-le, length_push, get_or_push}
+use Rattle.gm_label.specs.declared.chunk.Place.{Place}
+use Rattle.gm_label.specs.Catalogues.{Catalogue, no_place, place_at, sources_at, base_at, chunk_numbers, IsOver}
+use Rattle.gm_versions.specs.Contents.{added_sources, added_at_after, site_at, changes_at, sources_at_after, next_changes_at, content_after, changes_up_to, all_changes, changes_near, is_some_change, update_changes_at, last_update}
 
 pub none_is : (changes : List Change) → is_some_change changes ≡ false → changes ≡ []
 none_is [] h = refl
@@ -26,47 +29,43 @@ none_is (c ∷ changes) h = absurd (cc)
 abbrev pub update_at : List (List Change) → ℕ → List Change
 update_at updates t = get_or updates t []
 
--- the changes of the next update that concern a chunk
-abbrev pub next_at : Catalogue → List (List Change) → ℕ → ℕ → List Change
-next_at cat updates c version = concerning_next cat c (changes_up_to updates version) (update_at updates version)
-
 pub last-le : (cat : Catalogue) (updates : List (List Change)) (c version : ℕ) → last_update cat updates c version ≤ version
 last-le cat updates c zero = omega arith
 last-le cat updates c (suc version) =
     let earlier = last-le cat updates c version in
     let at : (b : Bool) → cond b (suc version) (last_update cat updates c version) ≤ suc version = elim [ true ↦ omega arith | false ↦ omega arith ] in
-    at (is_some_change (next_at cat updates c version))
+    at (is_some_change (update_changes_at cat updates c version))
 
 pub last-concerns : (cat : Catalogue) (updates : List (List Change)) (c version t : ℕ) → last_update cat updates c version ≡ t + 1
-    → is_some_change (next_at cat updates c t) ≡ true
+    → is_some_change (update_changes_at cat updates c t) ≡ true
 last-concerns cat updates c zero t is = absurd (omega arith)
 last-concerns cat updates c (suc version) t is =
-    let some = is_some_change (next_at cat updates c version) in
-    elim (cases_Bool some) as (λ _. is_some_change (next_at cat updates c t) ≡ true) [
+    let some = is_some_change (update_changes_at cat updates c version) in
+    elim (cases_Bool some) as (λ _. is_some_change (update_changes_at cat updates c t) ≡ true) [
       | inl so ↦
           let here : suc version ≡ t + 1 = sym (cond-true some (suc version) (last_update cat updates c version) so) ∙ is in
           let same : version ≡ t = omega arith in
-          subst (λ (v : ℕ). is_some_change (next_at cat updates c v) ≡ true) same so
+          subst (λ (v : ℕ). is_some_change (update_changes_at cat updates c v) ≡ true) same so
       | inr unchanged ↦ last-concerns cat updates c version t (sym (cond-false some (suc version) (last_update cat updates c version) unchanged) ∙ is)
     ]
 
 pub none-later : (cat : Catalogue) (updates : List (List Change)) (c version t : ℕ)
     → last_update cat updates c version ≤ t → t < version
-    → next_at cat updates c t ≡ []
+    → update_changes_at cat updates c t ≡ []
 none-later cat updates c zero t last less = absurd (omega arith)
 none-later cat updates c (suc version) t last less =
-    let some = is_some_change (next_at cat updates c version) in
-    elim (cases_Bool some) as (λ _. next_at cat updates c t ≡ []) [
+    let some = is_some_change (update_changes_at cat updates c version) in
+    elim (cases_Bool some) as (λ _. update_changes_at cat updates c t ≡ []) [
       | inl so ↦
           let here = cond-true some (suc version) (last_update cat updates c version) so in
           absurd (omega arith)
       | inr unchanged ↦
           let before = cond-false some (suc version) (last_update cat updates c version) unchanged in
-          elim (cases_lt t version) as (λ _. next_at cat updates c t ≡ []) [
+          elim (cases_lt t version) as (λ _. update_changes_at cat updates c t ≡ []) [
             | inl earlier ↦ none-later cat updates c version t (omega arith) earlier
             | inr here ↦
                 let same : version ≡ t = omega arith in
-                subst (λ (v : ℕ). next_at cat updates c v ≡ []) same (none_is _ unchanged)
+                subst (λ (v : ℕ). update_changes_at cat updates c v ≡ []) same (none_is _ unchanged)
           ]
     ]
 
@@ -82,7 +81,7 @@ some_of d site sources (c ∷ changes) =
 
 -- changes in two parts
 pub in_parts : (cat : Catalogue) (c : ℕ) (first second : List Change)
-    → concerning_at cat c (first ++ second) ≡ concerning_at cat c first ++ concerning_next cat c first second
+    → changes_at cat c (first ++ second) ≡ changes_at cat c first ++ next_changes_at cat c first second
 in_parts cat c first second = concerning-parts cat.dimensions (site_at cat c) (sources_at cat c) first second
 
 pub added_sources-append : (xs ys : List Change) → added_sources (xs ++ ys) ≡ added_sources xs ++ added_sources ys
@@ -91,36 +90,36 @@ added_sources-append (Add e ∷ xs) ys = ap (λ ss. e.from ∷ ss) (added_source
 added_sources-append (Cut from to ∷ xs) ys = added_sources-append xs ys
 
 pub added-in_parts : (cat : Catalogue) (c : ℕ) (first second : List Change)
-    → added_at_after cat c (first ++ second) ≡ added_at_after cat c first ++ added_sources (concerning_next cat c first second)
+    → added_at_after cat c (first ++ second) ≡ added_at_after cat c first ++ added_sources (next_changes_at cat c first second)
 added-in_parts cat c first second =
-    ap added_sources (in_parts cat c first second) ∙ added_sources-append (concerning_at cat c first) (concerning_next cat c first second)
+    ap added_sources (in_parts cat c first second) ∙ added_sources-append (changes_at cat c first) (next_changes_at cat c first second)
 
 -- the first change that concerns a chunk is met with the sources from before all of them
 pub some-concerning : (cat : Catalogue) (c : ℕ) (before changes : List Change)
-    → is_some_change (concerning_next cat c before changes) ≡ list_any (concerns cat.dimensions (site_at cat c) (sources_at_after cat c before)) changes
+    → is_some_change (next_changes_at cat c before changes) ≡ list_any (concerns cat.dimensions (site_at cat c) (sources_at_after cat c before)) changes
 some-concerning cat c before changes = some_of cat.dimensions (site_at cat c) (sources_at_after cat c before) changes
 
 -- the second part doesn't concern the chunk
-pub without_second : (cat : Catalogue) (c : ℕ) (first second : List Change) → is_some_change (concerning_next cat c first second) ≡ false
-    → concerning_at cat c (first ++ second) ≡ concerning_at cat c first
+pub without_second : (cat : Catalogue) (c : ℕ) (first second : List Change) → is_some_change (next_changes_at cat c first second) ≡ false
+    → changes_at cat c (first ++ second) ≡ changes_at cat c first
 without_second cat c first second none =
-    in_parts cat c first second ∙ ap (λ cs. concerning_at cat c first ++ cs) (none_is _ none) ∙ append-nil (concerning_at cat c first)
+    in_parts cat c first second ∙ ap (λ cs. changes_at cat c first ++ cs) (none_is _ none) ∙ append-nil (changes_at cat c first)
 
 -- where the same of the changes before concern the chunk, the same do with further changes
-pub concerning-same_before : (cat : Catalogue) (c : ℕ) (before other next : List Change) → concerning_at cat c before ≡ concerning_at cat c other
-    → concerning_at cat c (before ++ next) ≡ concerning_at cat c (other ++ next)
+pub concerning-same_before : (cat : Catalogue) (c : ℕ) (before other next : List Change) → changes_at cat c before ≡ changes_at cat c other
+    → changes_at cat c (before ++ next) ≡ changes_at cat c (other ++ next)
 concerning-same_before cat c before other next same =
     in_parts cat c before next
     ∙ ap (λ (cs : List Change). cs ++ concerning cat.dimensions (site_at cat c) (sources_after cs (sources_at cat c)) next) same
     ∙ sym (in_parts cat c other next)
 
 pub concerning-up_to_last : (cat : Catalogue) (updates : List (List Change)) (c version : ℕ)
-    → concerning_at cat c (changes_up_to updates (last_update cat updates c version)) ≡ concerning_at cat c (changes_up_to updates version)
+    → changes_at cat c (changes_up_to updates (last_update cat updates c version)) ≡ changes_at cat c (changes_up_to updates version)
 concerning-up_to_last cat updates c zero = refl
 concerning-up_to_last cat updates c (suc version) =
-    let some = is_some_change (next_at cat updates c version) in
+    let some = is_some_change (update_changes_at cat updates c version) in
     let at : (b : Bool) → some ≡ b
-    → concerning_at cat c (changes_up_to updates (cond b (suc version) (last_update cat updates c version))) ≡ concerning_at cat c (changes_up_to updates (suc version)) = elim [
+    → changes_at cat c (changes_up_to updates (cond b (suc version) (last_update cat updates c version))) ≡ changes_at cat c (changes_up_to updates (suc version)) = elim [
       | true ↦ λ so. refl
       | false ↦ λ none.
           concerning-up_to_last cat updates c version ∙ sym (without_second cat c (changes_up_to updates version) (update_at updates version) none)
@@ -129,42 +128,24 @@ concerning-up_to_last cat updates c (suc version) =
 
 -- of the updates up to a version those that concern the chunk suffice
 pub concerning-near : (cat : Catalogue) (updates : List (List Change)) (c version : ℕ)
-    → concerning_at cat c (changes_near cat updates c version) ≡ concerning_at cat c (changes_up_to updates version)
+    → changes_at cat c (changes_near cat updates c version) ≡ changes_at cat c (changes_up_to updates version)
 concerning-near cat updates c zero = refl
 concerning-near cat updates c (suc version) =
     let near = changes_near cat updates c version in
     let before = changes_up_to updates version in
     let batch = update_at updates version in
     let earlier = concerning-near cat updates c version in
-    let at : (b : Bool) → is_some_change (concerning_next cat c before batch) ≡ b
-    → concerning_at cat c (cond b (near ++ batch) near) ≡ concerning_at cat c (before ++ batch) = elim [
+    let at : (b : Bool) → is_some_change (next_changes_at cat c before batch) ≡ b
+    → changes_at cat c (cond b (near ++ batch) near) ≡ changes_at cat c (before ++ batch) = elim [
       | true ↦ λ so. concerning-same_before cat c near before batch earlier
       | false ↦ λ none. earlier ∙ sym (without_second cat c before batch none)
     ] in
-    at (is_some_change (concerning_next cat c before batch)) refl
+    at (is_some_change (next_changes_at cat c before batch)) refl
 
 pub content-up_to_last : (cat : Catalogue) (edges : List Edge) (updates : List (List Change)) (c version : ℕ)
     → content_after cat edges (changes_up_to updates (last_update cat updates c version)) c ≡ content_after cat edges (changes_up_to updates version) c
 content-up_to_last cat edges updates c version =
     ap (λ cs. edges_after cs (base_at cat edges c)) (concerning-up_to_last cat updates c version)
-
--- a job's key of a chunk stands for all changes that the job sees
-pub content-of_key : (cat : Catalogue) (edges : List Edge) (updates : List (List Change)) (sight_of : ℕ → Sight) (job c : ℕ)
-    → (sight_of job).job ≡ job
-    → content_of cat edges updates sight_of (key_of cat updates (sight_of job) c) ≡ content_after cat edges (changes_seen updates (sight_of job)) c
-content-of_key cat edges updates sight_of job c numbered =
-    let sight = sight_of job in
-    let before = changes_up_to updates sight.version in
-    let some = is_some_change (concerning_next cat c before sight.own) in
-    let update = Update (last_update cat updates c sight.version) in
-    let at : (b : Bool) → some ≡ b
-    → content_after cat edges (changes_of_tag updates sight_of (cond b (Own sight.job) update)) c ≡ content_after cat edges (changes_seen updates sight) c = elim [
-      | true ↦ λ so. ap (λ j. content_after cat edges (changes_seen updates (sight_of j)) c) numbered
-      | false ↦ λ none.
-          content-up_to_last cat edges updates c sight.version
-          ∙ ap (λ cs. edges_after cs (base_at cat edges c)) (sym (without_second cat c before sight.own none))
-    ] in
-    at some refl
 
 pub content-same_update : (cat : Catalogue) (edges : List Edge) (updates : List (List Change)) (c version other : ℕ)
     → last_update cat updates c version ≡ last_update cat updates c other
@@ -173,15 +154,6 @@ content-same_update cat edges updates c version other same =
     sym (content-up_to_last cat edges updates c version)
     ∙ ap (λ (t : ℕ). content_after cat edges (changes_up_to updates t) c) same
     ∙ content-up_to_last cat edges updates c other
-
-pub content-same_key : (cat : Catalogue) (edges : List Edge) (updates : List (List Change)) (sight_of : ℕ → Sight) (job other c : ℕ)
-    → (sight_of job).job ≡ job → (sight_of other).job ≡ other
-    → key_of cat updates (sight_of job) c ≡ key_of cat updates (sight_of other) c
-    → content_after cat edges (changes_seen updates (sight_of job)) c ≡ content_after cat edges (changes_seen updates (sight_of other)) c
-content-same_key cat edges updates sight_of job other c numbered other_numbered same =
-    sym (content-of_key cat edges updates sight_of job c numbered)
-    ∙ ap (content_of cat edges updates sight_of) same
-    ∙ content-of_key cat edges updates sight_of other c other_numbered
 
 both_hold : (d : Dimensions) (site : Site) (sources : List ℕ) (xs : List Edge)
     → AllByRecursion (λ e. block_of d e ≡ site.block) xs → AllByRecursion (λ e. lists sources e.from ≡ true) xs
@@ -221,20 +193,6 @@ contents-joined cat edges changes over dims ends =
     (base-placed cat edges over) (record { one = over.one_last; none = over.no_other }) within in
     subst (λ (xs : List Edge). IsSameGraph (flat_map (content_after cat edges changes) (chunk_numbers cat)) (edges_after changes xs)) over.joined joined
 
--- the contents of a job's keys make its view
-pub contents-view : (cat : Catalogue) (edges : List Edge) (updates : List (List Change)) (sight_of : ℕ → Sight) (job : ℕ) → IsOver cat edges
-    → AreDimensions cat.dimensions.n cat.dimensions.parts → All (ChangesWithin cat.dimensions.n) (changes_seen updates (sight_of job))
-    → (sight_of job).job ≡ job
-    → IsSameGraph (flat_map (λ c. content_of cat edges updates sight_of (key_of cat updates (sight_of job) c)) (chunk_numbers cat))
-    (view_of edges updates (sight_of job))
-contents-view cat edges updates sight_of job over dims ends numbered e =
-    let sight = sight_of job in
-    let keyed : (λ c. content_of cat edges updates sight_of (key_of cat updates sight c)) ≡ content_after cat edges (changes_seen updates sight) =
-    λ i. λ c. content-of_key cat edges updates sight_of job c numbered i in
-    ap (λ (f : ℕ → List Edge). count_of e (flat_map f (chunk_numbers cat))) keyed
-    ∙ contents-joined cat edges (changes_seen updates sight) over dims ends e
-    ∙ ap (count_of e) (edges-parts (changes_up_to updates sight.version) sight.own edges)
-
 concerning-within : (n : ℕ) (d : Dimensions) (site : Site) (sources : List ℕ) (changes : List Change) → AllByRecursion (ChangesWithin n) changes
     → AllByRecursion (ChangesWithin n) (concerning d site sources changes)
 concerning-within n d site sources [] ends = tt
@@ -248,9 +206,9 @@ concerning-within n d site sources (c ∷ changes) ends =
     at (concerns d site sources c)
 
 -- of changes among n vertices those that concern a chunk are too
-pub concerning_at-within : (cat : Catalogue) (c n : ℕ) (changes : List Change) → All (ChangesWithin n) changes → All (ChangesWithin n) (concerning_at cat c changes)
-concerning_at-within cat c n changes ends =
-    All-from_recursion (ChangesWithin n) (concerning_at cat c changes)
+pub changes_at-within : (cat : Catalogue) (c n : ℕ) (changes : List Change) → All (ChangesWithin n) changes → All (ChangesWithin n) (changes_at cat c changes)
+changes_at-within cat c n changes ends =
+    All-from_recursion (ChangesWithin n) (changes_at cat c changes)
     (concerning-within n cat.dimensions (site_at cat c) (sources_at cat c) changes (recursion_from_All (ChangesWithin n) changes ends))
 
 pub edges_after-within : (n : ℕ) (changes : List Change) (edges : List Edge) → All (ChangesWithin n) changes → IsGraph n edges → IsGraph n (edges_after changes edges)
@@ -267,10 +225,99 @@ pub content-within : (cat : Catalogue) (edges : List Edge) (changes : List Chang
     → All (ChangesWithin cat.dimensions.n) changes → IsGraph cat.dimensions.n (content_after cat edges changes c)
 content-within cat edges changes c graph ends =
     let n = cat.dimensions.n in
-    edges_after-within n (concerning_at cat c changes) (base_at cat edges c) (concerning_at-within cat c n changes ends)
+    edges_after-within n (changes_at cat c changes) (base_at cat edges c) (changes_at-within cat c n changes ends)
     (All-take (HasEndsBelow n) (place_at cat c).count _ (All-drop (HasEndsBelow n) (place_at cat c).first edges graph))
 
--- a job without changes of its own sees the keys of its version
-pub key_of-version : (cat : Catalogue) (updates : List (List Change)) (job version count c : ℕ) → version ≤ count
-    → IsVersionKey count c (key_of cat updates (record { job = job; version = version; own = [] }) c)
-key_of-version cat updates job version count c small = let low = last-le cat updates c version in record { chunk = refl; update = omega arith }
+or-none : (b : Bool) → b ≡ (b || false)
+or-none true = refl
+or-none false = refl
+
+or-moved : (a b c : Bool) → ((a || b) || c) ≡ (b || (a || c))
+or-moved true true c = refl
+or-moved true false c = refl
+or-moved false b c = refl
+
+-- the sources so far are those from before, and those of added edges
+pub lists-after : (changes : List Change) (sources : List ℕ) (u : ℕ) → lists (sources_after changes sources) u ≡ (lists sources u || lists (added_sources changes) u)
+lists-after [] sources u = or-none (lists sources u)
+lists-after (Add e ∷ changes) sources u =
+    lists-after changes (e.from ∷ sources) u ∙ or-moved (eqb e.from u) (lists sources u) (lists (added_sources changes) u)
+lists-after (Cut from to ∷ changes) sources u = lists-after changes sources u
+
+pub append-none : (xs ys : List Change) → xs ++ ys ≡ [] → (xs ≡ []) × (ys ≡ [])
+append-none [] ys h = (refl, h)
+append-none (x ∷ xs) ys h = absurd (cc)
+
+pub no_update : (cat : Catalogue) (updates : List (List Change)) (c version : ℕ) → changes_at cat c (changes_up_to updates version) ≡ [] → last_update cat updates c version ≡ 0
+no_update cat updates c zero none = refl
+no_update cat updates c (suc version) none =
+    let parts = append-none (changes_at cat c (changes_up_to updates version)) _ (sym (in_parts cat c (changes_up_to updates version) (update_at updates version)) ∙ none) in
+    ap (λ (cs : List Change). cond (is_some_change cs) (suc version) (last_update cat updates c version)) parts.1 ∙ no_update cat updates c version parts.0
+
+-- nothing is added where edges that are added don't go
+added-elsewhere : (d : Dimensions) (site : Site) (sources : List ℕ) (changes : List Change) → site.is_last ≡ false
+    → added_sources (concerning d site sources changes) ≡ []
+added-elsewhere d site sources [] elsewhere = refl
+added-elsewhere d site sources (Add e ∷ changes) elsewhere =
+    let b = eqb (block_of d e) site.block in
+    let all = concerning d site (e.from ∷ sources) changes in
+    let others = concerning d site sources changes in
+    ap (λ (last : Bool). added_sources (cond (last && b) (Add e ∷ all) others)) elsewhere ∙ added-elsewhere d site sources changes elsewhere
+added-elsewhere d site sources (Cut from to ∷ changes) elsewhere =
+    let others = concerning d site sources changes in
+    let at : (b : Bool) → added_sources (cond b (Cut from to ∷ others) others) ≡ added_sources others = elim [ true ↦ refl | false ↦ refl ] in
+    at (concerns d site sources (Cut from to)) ∙ added-elsewhere d site sources changes elsewhere
+
+-- a number that no chunk has is given no source ..
+pub added-past : (cat : Catalogue) (c : ℕ) (changes : List Change) → length cat.places ≤ c → added_at_after cat c changes ≡ []
+added-past cat c changes past =
+    added-elsewhere cat.dimensions (site_at cat c) (sources_at cat c) changes (ap (λ (p : Place). p.is_last) (get_or_past cat.places c no_place past))
+
+none-added : (changes : List Change) → added_sources changes ≡ [] → edges_after changes [] ≡ []
+none-added [] none = refl
+none-added (Add e ∷ changes) none = absurd (cc)
+none-added (Cut from to ∷ changes) none = none-added changes none
+
+-- .. and has no edge
+pub content-past : (cat : Catalogue) (edges : List Edge) (changes : List Change) (c : ℕ) → length cat.places ≤ c → content_after cat edges changes c ≡ []
+content-past cat edges changes c past =
+    ap (λ (p : Place). edges_after (changes_at cat c changes) (take p.count (drop p.first edges))) (get_or_past cat.places c no_place past)
+    ∙ none-added (changes_at cat c changes) (added-past cat c changes past)
+
+-- with the updates up to a later version alone the changes up to a version are the same ..
+pub changes-taken : (updates : List (List Change)) (version k : ℕ) → k ≤ version → changes_up_to (take version updates) k ≡ changes_up_to updates k
+changes-taken updates version zero small = refl
+changes-taken updates version (suc k) small =
+    ap (λ (changes : List Change). changes ++ update_at (take version updates) k) (changes-taken updates version k (omega arith))
+    ∙ ap (λ (next : List Change). changes_up_to updates k ++ next) (get_or-take version updates k [] (omega arith))
+
+-- .. and so is the last update that concerns a chunk
+last-taken : (cat : Catalogue) (updates : List (List Change)) (c version k : ℕ) → k ≤ version
+    → last_update cat (take version updates) c k ≡ last_update cat updates c k
+last-taken cat updates c version zero small = refl
+last-taken cat updates c version (suc k) small =
+    let next : update_changes_at cat (take version updates) c k ≡ update_changes_at cat updates c k =
+    ap (λ (changes : List Change). next_changes_at cat c changes (update_at (take version updates) k)) (changes-taken updates version k (omega arith))
+    ∙ ap (next_changes_at cat c (changes_up_to updates k)) (get_or-take version updates k [] (omega arith)) in
+    ap (λ (last : ℕ). cond (is_some_change (update_changes_at cat (take version updates) c k)) (suc k) last) (last-taken cat updates c version k (omega arith))
+    ∙ ap (λ (changes : List Change). cond (is_some_change changes) (suc k) (last_update cat updates c k)) next
+
+-- the first updates are all there are up to their number
+pub all-taken : (updates : List (List Change)) (version : ℕ) → version ≤ length updates → all_changes (take version updates) ≡ changes_up_to updates version
+all-taken updates version small =
+    ap (changes_up_to (take version updates)) (length-take-le version updates small) ∙ changes-taken updates version version (omega arith)
+
+pub last-all_taken : (cat : Catalogue) (updates : List (List Change)) (c version : ℕ) → version ≤ length updates
+    → last_update cat (take version updates) c (length (take version updates)) ≡ last_update cat updates c version
+last-all_taken cat updates c version small =
+    ap (last_update cat (take version updates) c) (length-take-le version updates small) ∙ last-taken cat updates c version version (omega arith)
+
+-- one update more
+pub all-pushed : (updates : List (List Change)) (batch : List Change) → all_changes (updates ++ batch ∷ []) ≡ all_changes updates ++ batch
+all-pushed updates batch =
+    let more = updates ++ batch ∷ [] in
+    let long : length more ≡ suc (length updates) = length_push updates batch ∙ omega arith in
+    ap (changes_up_to more) long
+    ∙ ap (λ (changes : List Change). changes ++ update_at more (length updates)) (sym (changes-taken more (length updates) (length updates) (omega arith))
+    ∙ ap (λ (us : List (List Change)). changes_up_to us (length updates)) (take-append_seam updates (batch ∷ [])))
+    ∙ ap (λ (next : List Change). all_changes updates ++ next) (get_or_push updates batch [] (length updates) refl)
