@@ -3,7 +3,7 @@ use Rattle.std.proofs.Common.{◌≡◌, ℕ, ◌+◌, ◌<◌, eqb, List, [], �
 use Rattle.std.proofs.lemmas.Bool.{cases_Bool, cond-true, cond-false, eqb-true, eqb-false, ne_eqb}
 use Rattle.gm_label.specs.declared.chunk.Overlay.{Overlay}
 use Rattle.gm_label.specs.Overlays.{AscendByChunk}
-use Rattle.gm_versions.specs.OverlaysRules.{ascend-lower}
+use Rattle.gm_versions.specs.SnapshotsRules.{ascend-lower}
 use Rattle.gm_private.specs.declared.seen_chunks.SeenChunk.{SeenChunk}
 use Rattle.gm_private.specs.SeenChunks.{seen_of, seen_among}
 

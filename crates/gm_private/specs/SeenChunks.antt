@@ -7,7 +7,8 @@ use Rattle.gm_changes.specs.declared.change.Change.{Change}
 use Rattle.gm_changes.specs.Concerns.{concerns}
 use Rattle.gm_label.specs.declared.chunk.Overlay.{Overlay}
 use Rattle.gm_label.specs.Catalogues.{Catalogue}
-use Rattle.gm_versions.specs.Views.{Sight, site_at, sources_at_after, added_sources, changes_up_to}
+use Rattle.gm_versions.specs.Contents.{site_at, sources_at_after, added_sources, changes_up_to}
+use Rattle.gm_private.specs.OwnChanges.{OwnChanges}
 use Rattle.gm_private.specs.declared.seen_chunks.SeenChunk.{SeenChunk}
 use Rattle.gm_private.specs.declared.seen_chunks.SeenChunks.{SeenChunks}
 
@@ -32,13 +33,13 @@ with_own job sources None = record { tag = Own job; added = sources }
 with_own job sources (Some seen) = record { tag = Own job; added = seen.added ++ sources }
 
 -- Whether a change concerns a chunk is looked at with the sources of the version alone: a chunk that an own change gave a source is the job's own by then.
-abbrev pub after_own : Catalogue → List (List Change) → Sight → ℕ → Option SeenChunk → Change → Option SeenChunk
-after_own cat updates sight c seen change =
-    if concerns cat.dimensions (site_at cat c) (sources_at_after cat c (changes_up_to updates sight.version)) change
-    then Some (with_own sight.job (added_sources (change ∷ [])) seen)
+abbrev pub after_own : Catalogue → List (List Change) → OwnChanges → ℕ → Option SeenChunk → Change → Option SeenChunk
+after_own cat updates own c seen change =
+    if concerns cat.dimensions (site_at cat c) (sources_at_after cat c (changes_up_to updates own.version)) change
+    then Some (with_own own.job (added_sources (change ∷ [])) seen)
     else seen
 
 -- these changes of the job's own were noted
-pub record AreNoted (cat : Catalogue) (updates : List (List Change)) (sight : Sight) (changes : List Change) (old new : SeenChunks) : Type 0 where
-  pub each : (c : ℕ) → c < length cat.places → seen_at new c ≡ fold (after_own cat updates sight c) (seen_at old c) changes
+pub record AreNoted (cat : Catalogue) (updates : List (List Change)) (own : OwnChanges) (changes : List Change) (old new : SeenChunks) : Type 0 where
+  pub each : (c : ℕ) → c < length cat.places → seen_at new c ≡ fold (after_own cat updates own c) (seen_at old c) changes
   pub beyond : (c : ℕ) → length cat.places ≤ c → seen_at new c ≡ seen_at old c

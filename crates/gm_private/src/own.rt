@@ -5,8 +5,9 @@ ghost use Rattle.std.specs.List.{filter, list_any};
 ghost use Rattle.gm_changes.specs.Changes.{edges_after};
 ghost use Rattle.gm_changes.specs.Concerns.{concerns, may_concern};
 ghost use Rattle.gm_label.specs.Overlays.{AreOverlays};
-ghost use Rattle.gm_versions.specs.Views.{site_at, sources_at_after, changes_up_to, changes_near, key_of, overlays_of};
-ghost use Rattle.gm_private.specs.OwnChanges.{IsSightOver, IsCopySeen};
+ghost use Rattle.gm_versions.specs.Contents.{site_at, sources_at_after, changes_up_to, changes_near};
+ghost use Rattle.gm_versions.specs.Snapshots.{key_of, overlays_of};
+ghost use Rattle.gm_private.specs.OwnChanges.{snapshot_in, IsOwnOver, IsSnapshotCopy};
 
 use crate::seen_chunks::SeenChunks;
 use gm_base::{ChunkCopy, Edges, Key, Memory, Tag};
@@ -29,7 +30,7 @@ pub struct Own {
 impl Own {
     /// The changes of a job below so many updates.
     pub fn new(job: u32, version: u32, changes: Changes) -> Own
-        ensures { result ≡ record { job = job; version = version; own = changes } }
+        ensures { result ≡ record { job = job; version = version; changes = changes } }
     {
         Own {
             job,
@@ -40,9 +41,9 @@ impl Own {
 
     /// Whether one of the changes concerns a chunk.
     fn concerns(&self, cat: &Catalogue, versions: &Versions, chunk: u32) -> bool
-        requires over { IsSightOver cat.now versions.now self.now }
+        requires over { IsOwnOver cat.now versions.now self.now }
         requires chunk { chunk < length cat.now.places }
-        ensures { result ≡ list_any (concerns cat.now.dimensions (site_at cat.now chunk) (sources_at_after cat.now chunk (changes_up_to versions.now.batches self.now.version))) self.now.own }
+        ensures { result ≡ list_any (concerns cat.now.dimensions (site_at cat.now chunk) (sources_at_after cat.now chunk (changes_up_to versions.now.batches self.now.version))) self.now.changes }
     {
         for change in self.changes.as_slice() {
             if versions.concerns(cat, self.version, chunk, *change) {
@@ -54,9 +55,9 @@ impl Own {
 
     /// The job's key of a chunk: its own, where a change of its own concerns the chunk, else the key of its version.
     pub fn key(&self, cat: &Catalogue, versions: &Versions, chunk: u32) -> Key
-        requires over { IsSightOver cat.now versions.now self.now }
+        requires over { IsOwnOver cat.now versions.now self.now }
         requires chunk { chunk < length cat.now.places }
-        ensures { result ≡ key_of cat.now versions.now.batches self.now chunk }
+        ensures { result ≡ key_of cat.now (snapshot_in versions.now.batches self.now) chunk }
     {
         if self.concerns(cat, versions, chunk) {
             let tag = Tag::Own(self.job);
@@ -81,8 +82,8 @@ impl Own {
         cat: &Catalogue,
         versions: &Versions,
     ) -> Result<Overlays, Memory>
-        requires over { IsSightOver cat.now versions.now self.now }
-        ensures value { IfOk result (λ overlays. overlays ≡ overlays_of cat.now versions.now.batches self.now) }
+        requires over { IsOwnOver cat.now versions.now self.now }
+        ensures value { IfOk result (λ overlays. overlays ≡ overlays_of cat.now (snapshot_in versions.now.batches self.now)) }
         ensures fit { IfOk result (AreOverlays cat.now) }
     {
         let shared = versions.overlays(alloc, cat, self.version)?;
@@ -103,9 +104,9 @@ impl Own {
         chunk: u32,
         edges: &mut Edges,
     ) -> Result<(), Memory>
-        requires over { IsSightOver cat.now versions.now self.now }
+        requires over { IsOwnOver cat.now versions.now self.now }
         requires chunk { chunk < length cat.now.places }
-        ensures { OnOk result (edges.new ≡ edges_after (filter (may_concern cat.now.dimensions (site_at cat.now chunk)) (changes_near cat.now versions.now.batches chunk self.now.version ++ self.now.own)) edges.old) }
+        ensures { OnOk result (edges.new ≡ edges_after (filter (may_concern cat.now.dimensions (site_at cat.now chunk)) (changes_near cat.now versions.now.batches chunk self.now.version ++ self.now.changes)) edges.old) }
     {
         let block = cat.chunk(chunk).block;
         let last = cat.is_last(chunk);
@@ -125,10 +126,10 @@ impl Own {
         raw: Raw,
         key: Key,
     ) -> Result<ChunkCopy, Memory>
-        requires over { IsSightOver cat.now versions.now self.now }
+        requires over { IsOwnOver cat.now versions.now self.now }
         requires chunk { raw.chunk < length cat.now.places }
-        requires key { key ≡ key_of cat.now versions.now.batches self.now raw.chunk }
-        ensures { IfOk result (IsCopySeen cat.now versions.now.batches self.now raw.chunk raw.edges key) }
+        requires key { key ≡ key_of cat.now (snapshot_in versions.now.batches self.now) raw.chunk }
+        ensures { IfOk result (IsSnapshotCopy cat.now (snapshot_in versions.now.batches self.now) raw.chunk raw.edges key) }
     {
         match key.tag {
             Tag::Update(_) => versions.into_copy(alloc, cat, raw, key),
@@ -140,27 +141,26 @@ impl Own {
         }
     }
 
-    /// The copy of a chunk that a change of the job's own concerns, of edges that are used further: they are copied first.
+    /// The same, of edges that are used further: they are copied first.
     pub fn copy(
         &self,
         alloc: Global,
         cat: &Catalogue,
         versions: &Versions,
         raw: &Raw,
+        key: Key,
     ) -> Result<ChunkCopy, Memory>
-        requires over { IsSightOver cat.now versions.now self.now }
+        requires over { IsOwnOver cat.now versions.now self.now }
         requires chunk { raw.now.chunk < length cat.now.places }
-        requires own { (key_of cat.now versions.now.batches self.now raw.now.chunk).tag ≡ Tag.Own self.now.job }
-        ensures { IfOk result (IsCopySeen cat.now versions.now.batches self.now raw.now.chunk raw.now.edges (key_of cat.now versions.now.batches self.now raw.now.chunk)) }
+        requires key { key ≡ key_of cat.now (snapshot_in versions.now.batches self.now) raw.now.chunk }
+        ensures { IfOk result (IsSnapshotCopy cat.now (snapshot_in versions.now.batches self.now) raw.now.chunk raw.now.edges key) }
     {
         let edges = Vec::from_slice(alloc, raw.edges.as_slice())?;
-        let chunk = raw.chunk;
-        let tag = Tag::Own(self.job);
         let copied = Raw {
-            chunk,
+            chunk: raw.chunk,
             edges: Edges::from_vec(edges),
         };
-        self.into_copy(alloc, cat, versions, copied, Key { chunk, tag })
+        self.into_copy(alloc, cat, versions, copied, key)
     }
 
     /// How many updates the job sees.
@@ -172,9 +172,9 @@ impl Own {
 }
 
 impl Model for Own {
-    ghost use Rattle.gm_versions.specs.Views.{Sight};
+    ghost use Rattle.gm_private.specs.OwnChanges.{OwnChanges};
 
-    ghost Value = { Sight };
+    ghost Value = { OwnChanges };
 
-    ghost view = { λ a. record { job = a.job; version = a.version; own = a.changes } };
+    ghost view = { λ a. record { job = a.job; version = a.version; changes = a.changes } };
 }

@@ -5,9 +5,9 @@ ghost use Rattle.std.specs.Ordering.{nat_cmp};
 ghost use Rattle.std.specs.BTreeMap.{IsOrdered};
 ghost use Rattle.gm_changes.specs.Changes.{ChangesWithin};
 ghost use Rattle.gm_label.specs.Overlays.{AscendByChunk};
-ghost use Rattle.gm_versions.specs.Views.{added_sources};
+ghost use Rattle.gm_versions.specs.Contents.{added_sources};
 ghost use Rattle.gm_versions.specs.WalksRules.{told_in};
-ghost use Rattle.gm_private.specs.OwnChanges.{IsSightOver};
+ghost use Rattle.gm_private.specs.OwnChanges.{IsOwnOver};
 ghost use Rattle.gm_private.specs.SeenChunks.{seen_at, seen_among, overlay_with, with_own, after_own, AreNoted};
 
 use crate::own::Own;
@@ -108,7 +108,7 @@ impl SeenChunks {
         chunk: u32,
         change: Change,
     ) -> Result<(), Memory>
-        requires over { IsSightOver cat.now versions.now own.now }
+        requires over { IsOwnOver cat.now versions.now own.now }
         requires chunk { chunk < length cat.now.places }
         requires ends { ChangesWithin cat.now.dimensions.n change }
         ensures { OnOk result ((c : ℕ) → seen_at self.new c ≡ (if c == chunk then after_own cat.now versions.now.batches own.now c (seen_at self.old c) change else seen_at self.old c)) }
@@ -127,7 +127,7 @@ impl SeenChunks {
         own: &Own,
         change: Change,
     ) -> Result<(), Memory>
-        requires over { IsSightOver cat.now versions.now own.now }
+        requires over { IsOwnOver cat.now versions.now own.now }
         requires ends { ChangesWithin cat.now.dimensions.n change }
         ensures { OnOk result (AreNoted cat.now versions.now.batches own.now (change ∷ []) self.old self.new) }
     {
@@ -146,7 +146,7 @@ impl SeenChunks {
         own: &Own,
         changes: &[Change],
     ) -> Result<(), Memory>
-        requires over { IsSightOver cat.now versions.now own.now }
+        requires over { IsOwnOver cat.now versions.now own.now }
         requires ends { All (ChangesWithin cat.now.dimensions.n) changes.now }
         ensures { OnOk result (AreNoted cat.now versions.now.batches own.now changes.now self.old self.new) }
     {

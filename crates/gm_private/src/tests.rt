@@ -5,7 +5,7 @@ ghost use Rattle.std.specs.Prelude.{◌≡◌, ◌≤◌, [], ◌∷◌, length,
 ghost use Rattle.gm_label.specs.Chunks.{chunks_of};
 ghost use Rattle.gm_label.specs.Catalogues.{unlabelled};
 ghost use Rattle.gm_versions.specs.Kept.{IsOf};
-ghost use Rattle.gm_private.specs.OwnChanges.{IsSightOver};
+ghost use Rattle.gm_private.specs.OwnChanges.{IsOwnOver};
 
 use crate::Own;
 use gm_base::{Edge, Edges, Key, Shape, Tag};
@@ -56,7 +56,7 @@ fn updated(alloc: Global, cat: &Catalogue) -> Result<Versions, Fail>
 
 /// The grid's catalogue, the update, and the job.
 fn mutated(alloc: Global) -> Result<(Catalogue, Versions, Own), Fail>
-    ensures over { IfOk result (λ all. IsSightOver all.0 all.1 all.2) }
+    ensures over { IfOk result (λ all. IsOwnOver all.0 all.1 all.2) }
     ensures chunks { IfOk result (λ all. length all.0.places ≡ 2) }
     ensures updates { IfOk result (λ all. length all.1.batches ≡ 1) }
 {
@@ -117,10 +117,8 @@ fn copies_of_a_job(rt: HostRuntime) -> Result<(), Fail> {
     let (cat, versions, own) = mutated(alloc)?;
     let raw = raw_chunk(alloc)?;
     let key = own.key(&cat, &versions, 0);
-    if key.tag == Tag::Own(own.job()) {
-        let copied = own.copy(alloc, &cat, &versions, &raw)?;
-        assert_eq!(rt; (copied.key, copied.edges.len()), (own_key(0), 0));
-    }
+    let copied = own.copy(alloc, &cat, &versions, &raw, key)?;
+    assert_eq!(rt; (copied.key, copied.edges.len()), (own_key(0), 0));
     assert_eq!(rt; raw.edges.len(), 2);
     let taken = own.into_copy(alloc, &cat, &versions, raw, key)?;
     assert_eq!(rt; (taken.key, taken.edges.len()), (own_key(0), 0));
