@@ -1,7 +1,14 @@
 -- What the laws of one job over its view give of the jobs of a script.
-use Rattle.std.specs.Prelude.{◌≡◌, ℕ, zero, suc, ◌<◌, Bool, true, false, List, [], ◌∷◌, length, refl}
-use Rattle.std.proofs.Common.{inl, inr, sym, ◌∙◌, true≢false, arith}
-use Rattle.std.proofs.lemmas.Bool.{cases_lt}
+use Rattle.std.specs.Prelude.{◌≡◌, ℕ, zero, suc, ◌<◌, ◌≤◌, Bool, true, false, List, [], ◌∷◌, length, refl}
+use Rattle.std.proofs.Common.{cond, eqb, inl, inr, sym, ◌∙◌, true≢false, arith}
+use Rattle.std.proofs.lemmas.Bool.{cases_lt, eqb-true}
+use Rattle.gm_base.specs.declared.copies.Key.{Key}
+use Rattle.gm_base.specs.declared.job.Spec.{Spec}
+use Rattle.gm_base.specs.declared.job.Spec.TheVariants.{Bfs, Sssp, Wcc, Rank}
+use Rattle.gm_label.specs.declared.chunk.Overlay.{Overlay}
+use Rattle.gm_label.specs.Overlays.{key_at}
+use Rattle.gm_jobs.specs.JobBounds.{MakesSomeRound}
+use Rattle.gm_kernel.specs.Runs.{most_rounds}
 use Rattle.gm_base.specs.declared.edge.Edge.{Edge}
 use Rattle.gm_label.specs.Catalogues.{Catalogue}
 use Rattle.gm_jobs.specs.declared.script.Line.{Line}
@@ -16,7 +23,7 @@ use Rattle.gm_work.specs.Entries.Turning.{Goes, Ends}
 use Rattle.gm_work.specs.Views.{JobView, StandingTurn, needed_in, IsTurnedWell}
 use Rattle.gm_work.specs.Views.StandingTurn.{StandsAt, EndsWith}
 use Rattle.gm_work.specs.Weights.{IsLeftBy}
-use Rattle.gm_core.specs.ScriptJobs.{job_view}
+use Rattle.gm_core.specs.SnapshotViews.{job_view}
 use Rattle.gm_core.specs.JobWorks.{IsJobMidRound, IsTurnedAs, HasLeft, works_of}
 
 -- a mark stands for a number below the marks' length
@@ -64,3 +71,18 @@ pub left_by_turn : (cat : Catalogue) (edges : List Edge) (entries : List Line) (
 unfolding works_of
 left_by_turn cat edges entries n passes (StandsAt s) left = left
 left_by_turn cat edges entries n passes (EndsWith outcome) left = left
+
+-- a chunk's key is of the chunk
+pub key_at-chunk : (overlays : List Overlay) (c : ℕ) → (key_at overlays c).chunk ≡ c
+key_at-chunk [] c = refl
+key_at-chunk (o ∷ overlays) c = tested o.key (key_at overlays c) c (eqb o.key.chunk c) refl (key_at-chunk overlays c)
+  where
+    tested : (here later : Key) (c : ℕ) (b : Bool) → eqb here.chunk c ≡ b → later.chunk ≡ c → (cond b here later).chunk ≡ c
+    tested here later c true is rest = eqb-true here.chunk c is
+    tested here later c false is rest = rest
+
+pub some_round : (spec : Spec) → MakesSomeRound spec → 1 ≤ most_rounds spec
+some_round (Bfs source bound) some = some
+some_round (Sssp source bound) some = some
+some_round (Wcc bound) some = some
+some_round (Rank rounds) some = some

@@ -1,3 +1,2 @@
-pub mod SeenGraphs
-pub mod ScriptViews
+pub mod SnapshotGraphs
 pub mod Lawful

@@ -15,7 +15,8 @@ use Rattle.gm_work.specs.Entries.Turning.{Goes, Ends}
 use Rattle.gm_work.specs.Views.{Standing, StandingTurn, owed_at, first_standing, with_passed, IsMidRound, turn_at}
 use Rattle.gm_work.specs.Views.StandingTurn.{StandsAt, EndsWith}
 use Rattle.gm_work.specs.Weights.{weight_left}
-use Rattle.gm_core.specs.ScriptJobs.{job_view, job_key, content_of_key}
+use Rattle.gm_scripts.specs.ScriptJobs.{job_key, content_in_script}
+use Rattle.gm_core.specs.SnapshotViews.{job_view}
 
 -- functions of the jobs of one script over one grid
 pub record JobWorks : Type 0 where
@@ -102,8 +103,8 @@ works_of cat edges entries = record {
   owes_at = λ n s c. is_in (owed_at (job_view cat edges entries n) s) c;
   turn_at = λ n s. turn_at (job_view cat edges entries n) s;
   lone = λ n. let d = job_view cat edges entries n in lone_run d.known.spec d.known.dimensions.n d.edges;
-  key_at = job_key cat entries;
-  content_of = content_of_key cat edges entries;
+  key_at = λ n s c. job_key cat entries n c;
+  content_of = content_in_script cat edges entries;
   phases = λ n. let d = job_view cat edges entries n in phases_left d.known.spec (first_standing d).phase;
   left = λ n s. weight_left (job_view cat edges entries n) (λ c. 1) s;
 }

@@ -1,6 +1,3 @@
-pub mod SeenViews
-pub mod ScriptJobs
+pub mod SnapshotViews
 pub mod JobWorks
-pub mod AboveRules
-pub mod BelowRules
 pub mod Examples

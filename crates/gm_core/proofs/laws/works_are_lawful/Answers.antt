@@ -1,14 +1,17 @@
-use Rattle.std.specs.Prelude.{List, Bool, refl}
-use Rattle.std.proofs.Common.{sym, ap, ◌∙◌, subst, arith}
+use Rattle.std.specs.Prelude.{List, Bool}
+use Rattle.std.proofs.Common.{ap, subst, arith}
 use Rattle.gm_base.specs.Graph.{IsSameGraph}
 use Rattle.gm_active.specs.Bits.{is_in}
 use Rattle.gm_work.specs.Entries.{turned}
 use Rattle.gm_work.specs.Views.{turn_at}
 use Rattle.gm_work.specs.Weights.{weight_left}
-use Rattle.gm_core.specs.ScriptJobs.{job_view}
+use Rattle.gm_versions.specs.Snapshots.{overlays_of}
+use Rattle.gm_scripts.specs.ScriptJobs.{job_at, snapshot_at}
+use Rattle.gm_scripts.specs.ScriptJobsRules.{makes_round, content}
+use Rattle.gm_core.specs.SnapshotViews.{job_view}
 use Rattle.gm_core.specs.JobWorks.{works_of}
-use Rattle.gm_core.proofs.ScriptViews.{makes_rounds, cut, content}
-use Rattle.gm_core.proofs.Lawful.{needed_within, unpassed, turned_as, left_by_turn}
+use Rattle.gm_core.proofs.SnapshotGraphs.{job_is_cut}
+use Rattle.gm_core.proofs.Lawful.{needed_within, unpassed, turned_as, left_by_turn, key_at-chunk, some_round}
 use Rattle.gm_core.proofs.laws.works_are_lawful.Goals as goal
 
 pub returns : goal.returns
@@ -18,23 +21,22 @@ returns c cat edges entries over =
     let owed = c.owed_chunks.ensures in
     let left = c.weight_is_left.ensures in
     record {
-      begins = λ n within. record { number = within; mid = c.begins.ensures (view n) (makes_rounds cat edges entries n over within) };
+      begins = λ n within. record { number = within; mid = c.begins.ensures (view n) (some_round (job_at entries n).spec (makes_round cat edges entries n over within)) };
       passes = λ n x s e copied here owes same.
-          let below = needed_within (view n) s.phase x (owed.needed (view n) s x (ap (λ (marks : List Bool). is_in marks x) (sym (c.determined.ensures.owed (view n) s e here.mid)) ∙ owes)) in
           record {
             number = here.number;
-            mid = c.passes.ensures (view n) s e x copied here.mid owes (subst (IsSameGraph copied) (content cat edges entries n x s here.number below) same);
+            mid = c.passes.ensures (view n) s e x copied here.mid owes (subst (IsSameGraph copied) (content cat edges entries n x here.number) same);
           };
       turns = λ n s e here.
-          turned_as cat edges entries n (turn_at (view n) s) (turned (view n).known e) here.number (c.turns.ensures (view n) s e (cut cat edges entries n over here.number) here.mid);
+          turned_as cat edges entries n (turn_at (view n) s) (turned (view n).known e) here.number (c.turns.ensures (view n) s e (job_is_cut cat edges entries n over here.number) here.mid);
       determined = λ n s e f one other. c.determined.ensures.entry (view n) s e f one.mid other.mid;
       owed = λ n x s e here. ap (λ (marks : List Bool). is_in marks x) (c.determined.ensures.owed (view n) s e here.mid);
       owed_after = λ n x y s. owed.after (view n) s x y;
       owed_is_new = λ n x s owes. unpassed _ _ (owed.new (view n) s x) owes;
       owed_is_chunk = λ n x s owes. needed_within (view n) s.phase x (owed.needed (view n) s x owes);
-      key_of_chunk = λ n x s. refl;
+      key_of_chunk = λ n x s. key_at-chunk (overlays_of cat (snapshot_at entries n)) x;
       left_at_first = λ n within.
-          let some = makes_rounds cat edges entries n over within in
+          let some = some_round (job_at entries n).spec (makes_round cat edges entries n over within) in
           let all = left.begins (view n) (λ x. 1) some in
           let most = left.most (view n) some in
           omega (arith, all, most);

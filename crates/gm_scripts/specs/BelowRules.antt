@@ -1,28 +1,23 @@
 -- What proofs need of scripts that are gone through entry by entry: what holds of the entries that are left, and of the updates above them.
-use Rattle.std.specs.Prelude.{◌≡◌, ℕ, suc, ◌+◌, ◌<◌, ◌≤◌, List, [], ◌∷◌, ◌++◌, length, All, slice_index_or, refl}
-use Rattle.std.proofs.Common.{sym, ap, ◌∙◌, subst, arith}
-use Rattle.std.proofs.lemmas.List.{length-append}
+use Rattle.std.specs.Prelude.{ℕ, ◌+◌, ◌<◌, ◌≤◌, List, [], ◌∷◌, ◌++◌, length, All}
+use Rattle.std.proofs.Common.{sym, ap, subst, arith}
+use Rattle.std.proofs.lemmas.List.{length-append, length_push}
 use Rattle.std.proofs.lemmas.List.Elements.{All-append, All-cons, All-head, All-nil, All-tail}
 use Rattle.std.proofs.lemmas.List.Sums.{sum_by-cons}
 use Rattle.gm_base.specs.declared.job.Spec.{Spec}
-use Rattle.gm_base.specs.declared.job.Spec.TheVariants.{Bfs, Sssp, Wcc, Rank}
 use Rattle.gm_base.specs.declared.limits.TheConstants.{MAX_CHANGES}
 use Rattle.gm_changes.specs.declared.change.Change.{Change}
 use Rattle.gm_changes.specs.Changes.{ChangesWithin}
-use Rattle.gm_versions.specs.Views.{changes_up_to}
+use Rattle.gm_versions.specs.Contents.{all_changes}
 use Rattle.gm_jobs.specs.declared.limits.TheConstants.{MAX_JOBS}
 use Rattle.gm_jobs.specs.declared.script.Line.{Line}
 use Rattle.gm_jobs.specs.declared.script.Line.TheVariants.{Job, Update, Wait}
 use Rattle.gm_jobs.specs.JobBounds.{MakesSomeRound, IsLineOver, IsScriptOver}
 use Rattle.gm_jobs.specs.Scripts.{names_of, change_lines_in, change_lines_of}
 use Rattle.gm_jobs.specs.StatedJobs.{StatedJob, jobs_below}
-use Rattle.gm_kernel.specs.Runs.{most_rounds}
-use Rattle.gm_core.specs.SeenViews.{IsSeenOver, seen_by}
-use Rattle.gm_core.specs.AboveRules.{up_to_with}
-
--- all changes of the updates
-abbrev pub all_changes : List (List Change) → List Change
-all_changes above = changes_up_to above (length above)
+use Rattle.gm_versions.specs.Snapshots.{IsSnapshotOver}
+use Rattle.gm_versions.specs.ContentsRules.{all-pushed}
+use Rattle.gm_scripts.specs.ScriptJobs.{snapshot_of}
 
 -- entries below so many jobs and below these updates
 pub record AreBelow (n number : ℕ) (above : List (List Change)) (rest : List Line) : Type 0 where
@@ -39,21 +34,6 @@ all_below n entries over = record {
   ends = All-nil (ChangesWithin n);
 }
 
-at_end : (xs : List (List Change)) (x : List Change) → slice_index_or (xs ++ x ∷ []) (length xs) [] ≡ x
-at_end [] x = refl
-at_end (y ∷ xs) x = at_end xs x
-
-length-pushed : (xs : List (List Change)) (x : List Change) → length (xs ++ x ∷ []) ≡ suc (length xs)
-length-pushed [] x = refl
-length-pushed (y ∷ xs) x = ap suc (length-pushed xs x)
-
--- one update more
-pub all_with : (above : List (List Change)) (batch : List Change) → all_changes (above ++ batch ∷ []) ≡ all_changes above ++ batch
-all_with above batch =
-    ap (changes_up_to (above ++ batch ∷ [])) (length-pushed above batch)
-    ∙ ap (λ (changes : List Change). changes ++ slice_index_or (above ++ batch ∷ []) (length above) []) (up_to_with above (batch ∷ []) (length above) (omega arith))
-    ∙ ap (λ (next : List Change). all_changes above ++ next) (at_end above batch)
-
 -- below one job more
 pub below_job : (n number : ℕ) (above : List (List Change)) (name : List ℕ) (spec : Spec) (own : List Change) (rest : List Line)
     → AreBelow n number above (Job name spec own ∷ rest) → AreBelow n (number + 1) above rest
@@ -68,15 +48,9 @@ below_job n number above name spec own rest below =
       ends = below.ends;
     }
 
-some_round : (spec : Spec) → MakesSomeRound spec → 1 ≤ most_rounds spec
-some_round (Bfs source bound) some = some
-some_round (Sssp source bound) some = some
-some_round (Wcc bound) some = some
-some_round (Rank rounds) some = some
-
 pub job_rounds : (n number : ℕ) (above : List (List Change)) (name : List ℕ) (spec : Spec) (own : List Change) (rest : List Line)
-    → AreBelow n number above (Job name spec own ∷ rest) → 1 ≤ most_rounds spec
-job_rounds n number above name spec own rest below = some_round spec (All-head (IsLineOver n) (Job name spec own) rest below.lines).0
+    → AreBelow n number above (Job name spec own ∷ rest) → MakesSomeRound spec
+job_rounds n number above name spec own rest below = (All-head (IsLineOver n) (Job name spec own) rest below.lines).0
 
 -- below one update more
 pub below_update : (n number : ℕ) (above : List (List Change)) (batch : List Change) (rest : List Line)
@@ -85,14 +59,14 @@ below_update n number above batch rest below =
     let jobs = below.jobs in
     let changes = below.changes in
     let counted = sum_by-cons change_lines_in (Update batch) rest in
-    let all = ap length (all_with above batch) in
+    let all = ap length (all-pushed above batch) in
     let joined = length-append (all_changes above) batch in
-    let pushed = length-pushed above batch in
+    let pushed = length_push above batch in
     record {
       lines = All-tail (IsLineOver n) (Update batch) rest below.lines;
       jobs = omega (arith, jobs);
       changes = omega (arith, changes, counted, all, joined, pushed);
-      ends = subst (All (ChangesWithin n)) (sym (all_with above batch))
+      ends = subst (All (ChangesWithin n)) (sym (all-pushed above batch))
           (All-append (ChangesWithin n) (all_changes above) batch below.ends (All-head (IsLineOver n) (Update batch) rest below.lines));
     }
 
@@ -122,7 +96,7 @@ below_wait n number above visits rest below =
 
 -- what a job sees is among the vertices
 pub job_sees : (n number : ℕ) (above : List (List Change)) (name : List ℕ) (spec : Spec) (own : List Change) (rest : List Line) → AreBelow n number above (Job name spec own ∷ rest)
-    → IsSeenOver n (seen_by (record { number = number; name = name; spec = spec; above = above; own = own }))
+    → IsSnapshotOver n (snapshot_of (record { number = number; name = name; spec = spec; above = above; own = own }))
 job_sees n number above name spec own rest below =
     let changes = below.changes in
     let counted = sum_by-cons change_lines_in (Job name spec own) rest in
@@ -145,9 +119,9 @@ each_job P n line number above (Update batch ∷ rest) below = each_job P n line
 each_job P n line number above (Wait visits ∷ rest) below = each_job P n line number above rest (below_wait n number above visits rest below)
 
 pub see_vertices : (n number : ℕ) (above : List (List Change)) (entries : List Line) → AreBelow n number above entries
-    → All (λ job. IsSeenOver n (seen_by job)) (jobs_below number above entries)
-see_vertices n = each_job (λ job. IsSeenOver n (seen_by job)) n (job_sees n)
+    → All (λ job. IsSnapshotOver n (snapshot_of job)) (jobs_below number above entries)
+see_vertices n = each_job (λ job. IsSnapshotOver n (snapshot_of job)) n (job_sees n)
 
 pub make_rounds : (n number : ℕ) (above : List (List Change)) (entries : List Line) → AreBelow n number above entries
-    → All (λ job. 1 ≤ most_rounds job.spec) (jobs_below number above entries)
-make_rounds n = each_job (λ job. 1 ≤ most_rounds job.spec) n (job_rounds n)
+    → All (λ job. MakesSomeRound job.spec) (jobs_below number above entries)
+make_rounds n = each_job (λ job. MakesSomeRound job.spec) n (job_rounds n)

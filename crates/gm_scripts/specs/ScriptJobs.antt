@@ -7,12 +7,12 @@ use Rattle.gm_base.specs.declared.limits.TheConstants.{MAX_EDGES}
 use Rattle.gm_base.specs.Dimensions.{AreDimensions}
 use Rattle.gm_base.specs.Graph.{IsGraph}
 use Rattle.gm_label.specs.Catalogues.{Catalogue, IsOver}
-use Rattle.gm_versions.specs.Views.{Sight, key_of, content_of}
+use Rattle.gm_label.specs.Overlays.{key_at}
+use Rattle.gm_versions.specs.Snapshots.{Snapshot, overlays_of}
+use Rattle.gm_versions.specs.Keys.{content_of_key}
 use Rattle.gm_jobs.specs.declared.script.Line.{Line}
 use Rattle.gm_jobs.specs.JobBounds.{IsScriptOver}
 use Rattle.gm_jobs.specs.StatedJobs.{StatedJob, jobs_of, updates_of}
-use Rattle.gm_work.specs.Views.{JobView, Standing}
-use Rattle.gm_core.specs.SeenViews.{seen_of, seen_by, seen_view}
 
 -- a grid's edges and their catalogue, and a script over the grid's vertices
 pub record IsScriptOverGrid (cat : Catalogue) (edges : List Edge) (entries : List Line) : Type 0 where
@@ -30,18 +30,17 @@ no_job = record { number = 0; name = []; spec = Wcc 0; above = []; own = [] }
 abbrev pub job_at : List Line → ℕ → StatedJob
 job_at entries n = slice_index_or (jobs_of entries) n no_job
 
--- the job's number, how many updates stand above its line, and its own changes
-abbrev pub sight_at : List Line → ℕ → Sight
-sight_at entries n = (seen_by (job_at entries n)).sight
+-- what a job sees: the updates above its line, and its own changes
+abbrev pub snapshot_of : StatedJob → Snapshot
+snapshot_of job = record { job = job.number; updates = job.above; own = job.own }
 
--- the job over what it sees of a grid's edges. All updates of the script are given, and its sight takes those above its line
-abbrev pub job_view : Catalogue → List Edge → List Line → ℕ → JobView
-job_view cat edges entries n = seen_view (job_at entries n).spec cat edges (seen_of (updates_of entries) (sight_at entries n))
+abbrev pub snapshot_at : List Line → ℕ → Snapshot
+snapshot_at entries n = snapshot_of (job_at entries n)
 
--- the key that the job has of a chunk, wherever it stands
-abbrev pub job_key : Catalogue → List Line → ℕ → Standing → ℕ → Key
-job_key cat entries n standing c = key_of cat (updates_of entries) (sight_at entries n) c
+-- the key that the job has of a chunk, as its overlays tell it
+abbrev pub job_key : Catalogue → List Line → ℕ → ℕ → Key
+job_key cat entries n c = key_at (overlays_of cat (snapshot_at entries n)) c
 
--- the edges of the copy that a key of one of the jobs stands for
-abbrev pub content_of_key : Catalogue → List Edge → List Line → Key → List Edge
-content_of_key cat edges entries key = content_of cat edges (updates_of entries) (sight_at entries) key
+-- the edges that a key of one of the jobs stands for
+abbrev pub content_in_script : Catalogue → List Edge → List Line → Key → List Edge
+content_in_script cat edges entries key = content_of_key cat edges (updates_of entries) (snapshot_at entries) key

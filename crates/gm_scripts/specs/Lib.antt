@@ -1,0 +1,4 @@
+pub mod ScriptJobs
+pub mod BelowRules
+pub mod ScriptJobsRules
+pub mod Examples
