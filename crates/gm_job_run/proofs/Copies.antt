@@ -17,12 +17,13 @@ use Rattle.gm_label.specs.Labels.{sources_of}
 use Rattle.gm_label.specs.LabelsRules.{label-lists}
 use Rattle.gm_label.specs.Overlays.{key_at}
 use Rattle.gm_source.specs.Fetches.{FitsCatalogue, LiesInChunk}
-use Rattle.gm_versions.specs.OverlaysRules.{key_at-overlays}
-use Rattle.gm_versions.specs.Views.{changes_seen, concerning_at, content_of, key_of, site_at}
-use Rattle.gm_versions.specs.ViewsRules.{concerning_at-within, edges_after-within}
-use Rattle.gm_private.specs.OwnChanges.{IsCopySeen}
+use Rattle.gm_versions.specs.SnapshotsRules.{key_at-overlays}
+use Rattle.gm_versions.specs.Contents.{changes_at, site_at}
+use Rattle.gm_versions.specs.ContentsRules.{changes_at-within, edges_after-within}
+use Rattle.gm_versions.specs.Snapshots.{changes_of, key_of}
+use Rattle.gm_private.specs.OwnChanges.{IsSnapshotCopy}
 use Rattle.gm_job_run.specs.declared.view.View.{View}
-use Rattle.gm_core.specs.SeenViews.{IsSeenOver, chunk_seen, overlays_seen}
+use Rattle.gm_versions.specs.Snapshots.{IsSnapshotOver, content_of, overlays_of}
 use Rattle.gm_job_run.specs.SeenViews.{seen_in}
 
 -- a chunk's key is of the chunk
@@ -35,10 +36,10 @@ key_at-chunk (o ∷ overlays) c = tested o.key (key_at overlays c) c (eqb o.key.
     tested here later c false is rest = rest
 
 -- the key of a chunk by what the job sees, of the chunk that was fetched
-pub key_seen : (cat : Catalogue) (view : View) (key : Key) (chunk : ℕ) → key.chunk < length cat.places → key ≡ key_at (overlays_seen cat (seen_in view)) key.chunk
-    → chunk ≡ key.chunk → key ≡ key_of cat view.versions.now.batches view.own.now chunk
+pub key_seen : (cat : Catalogue) (view : View) (key : Key) (chunk : ℕ) → key.chunk < length cat.places → key ≡ key_at (overlays_of cat (seen_in view)) key.chunk
+    → chunk ≡ key.chunk → key ≡ key_of cat (seen_in view) chunk
 key_seen cat view key chunk within is same =
-    is ∙ key_at-overlays cat view.versions.now.batches view.own.now key.chunk within ∙ ap (key_of cat view.versions.now.batches view.own.now) (sym same)
+    is ∙ key_at-overlays cat (seen_in view) key.chunk within ∙ ap (key_of cat (seen_in view)) (sym same)
 
 both : {X : Type 0} (P Q R : X → Type 0) (xs : List X) → ((x : X) → P x → Q x → R x) → AllByRecursion P xs → AllByRecursion Q xs → AllByRecursion R xs
 both P Q R [] each ps qs = tt
@@ -55,21 +56,21 @@ placed-raw cat raw c fits =
     (recursion_from_All (LiesInChunk cat c) raw.edges fits.placed) (recursion_from_All Listed raw.edges listed))
 
 -- its edges have both ends among the vertices, whatever was fetched
-pub copy_within : (cat : Catalogue) (view : View) (key : Key) (raw : Raw) (copy : ChunkCopy) → IsSeenOver cat.dimensions.n (seen_in view) → FitsCatalogue cat key.chunk raw
-    → IsCopySeen cat view.versions.now.batches view.own.now raw.chunk raw.edges key copy → All (HasEndsBelow cat.dimensions.n) copy.edges
+pub copy_within : (cat : Catalogue) (view : View) (key : Key) (raw : Raw) (copy : ChunkCopy) → IsSnapshotOver cat.dimensions.n (seen_in view) → FitsCatalogue cat key.chunk raw
+    → IsSnapshotCopy cat (seen_in view) raw.chunk raw.edges key copy → All (HasEndsBelow cat.dimensions.n) copy.edges
 copy_within cat view key raw copy over fits made =
     let n = cat.dimensions.n in
-    let seen = changes_seen view.versions.now.batches view.own.now in
-    let made_here = subst (λ (c : ℕ). IsCopySeen cat view.versions.now.batches view.own.now c raw.edges key copy) fits.number made in
+    let seen = changes_of (seen_in view) in
+    let made_here = subst (λ (c : ℕ). IsSnapshotCopy cat (seen_in view) c raw.edges key copy) fits.number made in
     subst (All (HasEndsBelow n)) (sym (made_here.changed (placed-raw cat raw key.chunk fits)))
-    (edges_after-within n (concerning_at cat key.chunk seen) raw.edges (concerning_at-within cat key.chunk n seen over.ends)
+    (edges_after-within n (changes_at cat key.chunk seen) raw.edges (changes_at-within cat key.chunk n seen over.ends)
     (All-weaker (LiesInChunk cat key.chunk) (HasEndsBelow n) (λ e lies. lies.0) raw.edges fits.placed))
 
 -- .. and where the grid is told they are what the job sees
 pub copy_seen : (cat : Catalogue) (view : View) (key : Key) (raw : Raw) (copy : ChunkCopy) (grid : List Edge)
-    → key ≡ key_at (overlays_seen cat (seen_in view)) key.chunk → raw.chunk ≡ key.chunk
-    → IsCopySeen cat view.versions.now.batches view.own.now raw.chunk raw.edges key copy
-    → IsOver cat grid → raw.edges ≡ base_at cat grid key.chunk → copy.edges ≡ chunk_seen cat grid (seen_in view) key.chunk
+    → key ≡ key_at (overlays_of cat (seen_in view)) key.chunk → raw.chunk ≡ key.chunk
+    → IsSnapshotCopy cat (seen_in view) raw.chunk raw.edges key copy
+    → IsOver cat grid → raw.edges ≡ base_at cat grid key.chunk → copy.edges ≡ content_of cat grid (seen_in view) key.chunk
 copy_seen cat view key raw copy grid is same made over base =
-    let made_here = subst (λ (c : ℕ). IsCopySeen cat view.versions.now.batches view.own.now c raw.edges key copy) same made in
-    made_here.content grid (λ _. view.own.now) over refl base ∙ ap (content_of cat grid view.versions.now.batches (λ _. view.own.now)) is
+    let made_here = subst (λ (c : ℕ). IsSnapshotCopy cat (seen_in view) c raw.edges key copy) same made in
+    made_here.content grid over base

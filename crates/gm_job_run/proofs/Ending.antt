@@ -11,7 +11,8 @@ use Rattle.gm_work.specs.Views.{JobView}
 use Rattle.gm_work.specs.Weights.{run_weight}
 use Rattle.gm_base.specs.declared.edge.Edge.{Edge}
 use Rattle.gm_base.specs.declared.job.Spec.{Spec}
-use Rattle.gm_core.specs.SeenViews.{Seen, seen_view}
+use Rattle.gm_versions.specs.Snapshots.{Snapshot}
+use Rattle.gm_core.specs.SnapshotViews.{snapshot_view}
 use Rattle.gm_job_run.specs.declared.job_run.Stop.{Stop}
 use Rattle.gm_job_run.specs.declared.job_run.Stop.TheVariants.{Read, Changed, Memory}
 use Rattle.gm_job_run.specs.JobRuns.{AfterTurn, HasEnded, IsEnd, JobEnds, FaultsFor, StopFaults, StopsBy, outcome_of_turn, outcome_of_stop}
@@ -40,8 +41,8 @@ end_few d reads_of first reads outcome end = let few = counted_times-few (run_we
 same_some : (x y : Outcome) → Some x ≡ Some y → x ≡ y
 same_some x y is = cc
 
-pub stop_ends : (spec : Spec) (cat : Catalogue) (edges : List Edge) (seen : Seen) (reads_of : ℕ → ℕ) (depot : DepotChange) (stop : Stop) (outcome : Outcome)
-    → Some outcome ≡ outcome_of_stop cat stop → StopsBy (seen_view spec cat edges seen) depot.calm stop → JobEnds (seen_view spec cat edges seen) reads_of depot outcome
+pub stop_ends : (spec : Spec) (cat : Catalogue) (edges : List Edge) (seen : Snapshot) (reads_of : ℕ → ℕ) (depot : DepotChange) (stop : Stop) (outcome : Outcome)
+    → Some outcome ≡ outcome_of_stop cat stop → StopsBy (snapshot_view spec cat edges seen) depot.calm stop → JobEnds (snapshot_view spec cat edges seen) reads_of depot outcome
 stop_ends spec cat edges seen reads_of depot (Read chunk) outcome is stops = inr (record { chunk = chunk; is = same_some outcome _ is; needed = stops.0; not_calm = stops.1 })
 stop_ends spec cat edges seen reads_of depot (Changed chunk) outcome is stops = absurd stops
 stop_ends spec cat edges seen reads_of depot Memory outcome is stops = absurd cc

@@ -19,7 +19,7 @@ use Rattle.gm_work.specs.Entries.Turning.{Goes, Ends}
 use Rattle.gm_work.specs.Views.{JobView, IsCutIntoChunks, Standing, StandingTurn, IsMidRound, needed_in, owed_at, first_standing, with_passed, turn_at, IsTurnedWell}
 use Rattle.gm_work.specs.Views.StandingTurn.{StandsAt, EndsWith}
 use Rattle.gm_work.specs.Weights.{run_weight, weight_left, IsLeftBy}
-use Rattle.gm_core.specs.SeenViews.{Seen, chunk_seen}
+use Rattle.gm_versions.specs.Snapshots.{Snapshot, content_of}
 use Rattle.gm_job_run.specs.JobRuns.{IsNeeded, IsUnderWay, IsEnd, StopsBy, OfChunk, IsToldStop, pass_reads, view_over}
 
 -- the laws of gm_work, as its public functions state them
@@ -118,14 +118,14 @@ under_way-turns d reads_of first e reads cut turns weighs way =
 -- ---- a job as it is held, over what it sees of a grid
 
 -- a copy of a chunk that it owes has the edges that it sees of it
-pub chunk_passed : (h after : Held) (seen : Seen) (bytes : List ℕ) (first c reads reads' : ℕ) (cat : Catalogue) (key : Key) (edges : List Edge) → Passes → OwedIs → WeightPasses
+pub chunk_passed : (h after : Held) (seen : Snapshot) (bytes : List ℕ) (first c reads reads' : ℕ) (cat : Catalogue) (key : Key) (edges : List Edge) → Passes → OwedIs → WeightPasses
     → cat ≡ h.catalogue → is_in h.entry.owed c ≡ true → key ≡ key_at h.overlays c → key.chunk ≡ c
     → after ≡ record h { entry = passing (knows h) h.entry key.chunk edges }
-    → edges ≡ chunk_seen cat (edges_in bytes) seen c → reads' ≡ counted_times (pass_reads cat c) reads
+    → edges ≡ content_of cat (edges_in bytes) seen c → reads' ≡ counted_times (pass_reads cat c) reads
     → IsUnderWay (view_over h seen bytes) (pass_reads h.catalogue) first h.entry reads
     → IsUnderWay (view_over h seen bytes) (pass_reads h.catalogue) first after.entry reads'
 chunk_passed h after seen bytes first c reads reads' cat key edges passes owed_is weighs same_cat owes is_key chunk is content read way =
-    let same : edges ≡ chunk_seen h.catalogue (edges_in bytes) seen c = content ∙ ap (λ (known : Catalogue). chunk_seen known (edges_in bytes) seen c) same_cat in
+    let same : edges ≡ content_of h.catalogue (edges_in bytes) seen c = content ∙ ap (λ (known : Catalogue). content_of known (edges_in bytes) seen c) same_cat in
     let next : after.entry ≡ passing (knows h) h.entry c edges =
     ap (λ (now : Held). now.entry) is ∙ ap (λ (n : ℕ). passing (knows h) h.entry n edges) chunk in
     under_way-passes (view_over h seen bytes) (pass_reads h.catalogue) first h.entry after.entry c reads reads' edges passes owed_is weighs owes

@@ -21,10 +21,11 @@ use Rattle.gm_work.specs.Held.{Held, IsSameJob, known_of}
 use Rattle.gm_work.specs.HeldRules.{same_job-then}
 use Rattle.gm_job_run.specs.declared.job_run.Stop.{Stop}
 use Rattle.gm_job_run.specs.JobRuns.{IsUnderWay, StopsBy, StopFaults, IsOfChunks, ReadsSome, WhereUnderWay, StaysUnderWay, Carries, pass_reads, view_over}
-use Rattle.gm_core.specs.SeenViews.{Seen, view_through}
+use Rattle.gm_versions.specs.Snapshots.{Snapshot}
+use Rattle.gm_core.specs.SnapshotViews.{view_through}
 
 -- a job was under way, and is, and no call failed
-pub record GoesOn {D : Type 0} (g : Depot.Ghosts D) (old new : D) (name : List ℕ) (seen : Seen) (before after : Held) : Type 0 where
+pub record GoesOn {D : Type 0} (g : Depot.Ghosts D) (old new : D) (name : List ℕ) (seen : Snapshot) (before after : Held) : Type 0 where
   pub same : IsSameJob before after
   pub faults : g.faults new ≡ g.faults old
   pub frame : ReadsSome (depot_change g old new)
@@ -45,14 +46,14 @@ same_job-entry before after e is = record {
 same_job-back : (a b : Held) → IsSameJob a b → IsSameJob b a
 same_job-back a b same = record { job = sym same.job; spec = sym same.spec; catalogue = sym same.catalogue; overlays = sym same.overlays }
 
-pub goes_on-none : {D : Type 0} (g : Depot.Ghosts D) (depot : D) (name : List ℕ) (seen : Seen) (h : Held) → GoesOn g depot depot name seen h h
+pub goes_on-none : {D : Type 0} (g : Depot.Ghosts D) (depot : D) (name : List ℕ) (seen : Snapshot) (h : Held) → GoesOn g depot depot name seen h h
 goes_on-none g depot name seen h = record { same = same_job h; faults = refl; frame = (0, only_reads-none g depot); under_way = λ bytes first told way. way }
 
 reads_some-then : {D : Type 0} (g : Depot.Ghosts D) (old mid new : D) → ReadsSome (depot_change g old mid) → ReadsSome (depot_change g mid new) → ReadsSome (depot_change g old new)
 reads_some-then g old mid new a b = (a.0 + b.0, only_reads-then g old mid new a.0 b.0 a.1 b.1)
 
 -- what holds of the view of one moment holds of the other's
-view-to : (h other : Held) (seen : Seen) (bytes : List ℕ) (P : JobView → (ℕ → ℕ) → Type 0) → IsSameJob h other
+view-to : (h other : Held) (seen : Snapshot) (bytes : List ℕ) (P : JobView → (ℕ → ℕ) → Type 0) → IsSameJob h other
     → P (view_over h seen bytes) (pass_reads h.catalogue) → P (view_over other seen bytes) (pass_reads other.catalogue)
 view-to h other seen bytes P same p =
     let view = λ (spec : Spec) (cat : Catalogue) (overlays : List Overlay). view_through (known_of spec cat overlays) cat (edges_in bytes) seen in
@@ -61,7 +62,7 @@ view-to h other seen bytes P same p =
     (subst (λ (overlays : List Overlay). P (view h.spec h.catalogue overlays) (pass_reads h.catalogue)) (sym same.overlays) p))
 
 -- what holds after a call that began where the job had gone on to holds after both
-pub where-then : {D : Type 0} (g : Depot.Ghosts D) (old mid : D) (name : List ℕ) (seen : Seen) (h mid_h : Held) (Holds : JobView → (ℕ → ℕ) → ℕ → Type 0) → GoesOn g old mid name seen h mid_h
+pub where-then : {D : Type 0} (g : Depot.Ghosts D) (old mid : D) (name : List ℕ) (seen : Snapshot) (h mid_h : Held) (Holds : JobView → (ℕ → ℕ) → ℕ → Type 0) → GoesOn g old mid name seen h mid_h
     → WhereUnderWay g mid name mid_h seen Holds → WhereUnderWay g old name h seen Holds
 where-then g old mid name seen h mid_h Holds on holds bytes first told way =
     view-to mid_h h seen bytes (λ d reads_of. Holds d reads_of first) (same_job-back h mid_h on.same)
@@ -72,7 +73,7 @@ where-then g old mid name seen h mid_h Holds on holds bytes first told way =
         subst (λ (cat : Catalogue). TellsGrid (g.files mid) name cat bytes) (sym on.same.catalogue)
         (subst (λ (files : Option Files). TellsGrid files name h.catalogue bytes) (sym on.frame.1.files_kept) told)
 
-pub goes_on-then : {D : Type 0} (g : Depot.Ghosts D) (old mid new : D) (name : List ℕ) (seen : Seen) (h mid_h after : Held) → GoesOn g old mid name seen h mid_h
+pub goes_on-then : {D : Type 0} (g : Depot.Ghosts D) (old mid new : D) (name : List ℕ) (seen : Snapshot) (h mid_h after : Held) → GoesOn g old mid name seen h mid_h
     → GoesOn g mid new name seen mid_h after → GoesOn g old new name seen h after
 goes_on-then g old mid new name seen h mid_h after a b = record {
   same = same_job-then h mid_h after a.same b.same;
@@ -82,17 +83,17 @@ goes_on-then g old mid new name seen h mid_h after a b = record {
 }
 
 -- a call that was answered and after which the job is under way
-pub carries-on : {D T : Type 0} (g : Depot.Ghosts D) (old new : D) (name : List ℕ) (seen : Seen) (before after : Held) (x : T) → Carries g old new name seen before after (Ok x)
+pub carries-on : {D T : Type 0} (g : Depot.Ghosts D) (old new : D) (name : List ℕ) (seen : Snapshot) (before after : Held) (x : T) → Carries g old new name seen before after (Ok x)
     → StaysUnderWay g old new name seen before after → GoesOn g old new name seen before after
 carries-on g old new name seen before after x carries stays = record { same = carries.same; faults = carries.faults; frame = carries.frame; under_way = stays }
 
 -- an answer behind calls that all went well
-pub carries-done : {D T : Type 0} (g : Depot.Ghosts D) (old new : D) (name : List ℕ) (seen : Seen) (before after : Held) (x : T) → IsSameJob before after → g.faults new ≡ g.faults old
+pub carries-done : {D T : Type 0} (g : Depot.Ghosts D) (old new : D) (name : List ℕ) (seen : Snapshot) (before after : Held) (x : T) → IsSameJob before after → g.faults new ≡ g.faults old
     → ReadsSome (depot_change g old new) → Carries g old new name seen before after (Ok x)
 carries-done g old new name seen before after x same faults frame = record { same = same; chunk = tt; stops = tt; faults = faults; frame = frame }
 
 -- .. and a stop
-pub carries-stop : {D X T : Type 0} (g : Depot.Ghosts D) (old mid new : D) (name : List ℕ) (seen : Seen) (h mid_h after : Held) (stop : Stop) → GoesOn g old mid name seen h mid_h
+pub carries-stop : {D X T : Type 0} (g : Depot.Ghosts D) (old mid new : D) (name : List ℕ) (seen : Snapshot) (h mid_h after : Held) (stop : Stop) → GoesOn g old mid name seen h mid_h
     → Carries {T = X} g mid new name seen mid_h after (Err stop) → Carries {T = T} g old new name seen h after (Err stop)
 carries-stop g old mid new name seen h mid_h after stop on last = record {
   same = same_job-then h mid_h after on.same last.same;
@@ -107,12 +108,12 @@ carries-stop g old mid new name seen h mid_h after stop on last = record {
 -- ---- the passes of a phase
 
 -- so many first chunks aren't owed any more
-pub record PassesSo {D : Type 0} (g : Depot.Ghosts D) (old new : D) (name : List ℕ) (seen : Seen) (before after : Held) (end : ℕ) : Type 0 where
+pub record PassesSo {D : Type 0} (g : Depot.Ghosts D) (old new : D) (name : List ℕ) (seen : Snapshot) (before after : Held) (end : ℕ) : Type 0 where
   pub on : GoesOn g old new name seen before after
   pub phase : after.entry.phase ≡ before.entry.phase
   pub none : NoneBetween (is_in after.entry.owed) 0 end
 
-pub passes-none : {D : Type 0} (g : Depot.Ghosts D) (depot : D) (name : List ℕ) (seen : Seen) (h : Held) → PassesSo g depot depot name seen h h 0
+pub passes-none : {D : Type 0} (g : Depot.Ghosts D) (depot : D) (name : List ℕ) (seen : Snapshot) (h : Held) → PassesSo g depot depot name seen h h 0
 passes-none g depot name seen h = record { on = goes_on-none g depot name seen h; phase = refl; none = λ k low high. absurd (omega arith) }
 
 -- two stretches, one after the other
@@ -137,7 +138,7 @@ none_up_to owed marks from chunk is before between k low high =
           | inr beyond ↦ is_in_past (slice_set owed chunk false) chunk (omega (arith, beyond, length-set owed chunk false))
         ])
 
-pub passes-next : {D : Type 0} (g : Depot.Ghosts D) (old mid new : D) (name : List ℕ) (seen : Seen) (h mid_h after : Held) (from end chunk : ℕ)
+pub passes-next : {D : Type 0} (g : Depot.Ghosts D) (old mid new : D) (name : List ℕ) (seen : Snapshot) (h mid_h after : Held) (from end chunk : ℕ)
     → PassesSo g old mid name seen h mid_h from → IsLeastBetween (is_in mid_h.entry.owed) from end chunk → GoesOn g mid new name seen mid_h after
     → after.entry.phase ≡ mid_h.entry.phase → after.entry.owed ≡ slice_set mid_h.entry.owed chunk false
     → PassesSo g old new name seen h after (chunk + 1)

@@ -21,8 +21,9 @@ use Rattle.gm_job_run.specs.declared.script_run.Job.{Job}
 use Rattle.gm_job_run.specs.JobRuns.{JobEnds, FaultsFor, ReadsSome, pass_reads}
 use Rattle.gm_job_run.specs.JobLines.{job_below, line_of_job, runs_weight, view_of_job}
 use Rattle.gm_job_run.proofs.Listing.{RunSoFar, few_next, none_yet, one_run}
-use Rattle.gm_core.specs.SeenViews.{IsSeenOver, seen_by}
-use Rattle.gm_core.specs.BelowRules.{AreBelow, all_below, below_job, below_update, below_wait, job_sees}
+use Rattle.gm_versions.specs.Snapshots.{IsSnapshotOver}
+use Rattle.gm_scripts.specs.ScriptJobs.{snapshot_of}
+use Rattle.gm_scripts.specs.BelowRules.{AreBelow, all_below, below_job, below_update, below_wait, job_sees}
 
 -- after some entries of a script: their jobs were run, and their updates were made
 pub record ScriptSoFar {D : Type 0} (g : Depot.Ghosts D) (old now : D) (name : List ℕ) (cat : Catalogue) (script rest : List Line) (versions : Versions) (lines : List JobLine) : Type 0 where
@@ -54,9 +55,9 @@ pub script_sees : {D : Type 0} (g : Depot.Ghosts D) (old now : D) (grid : List �
     (name : List ℕ) (spec : Spec) (own : List Change) (job : Job)
     → ScriptSoFar g old now grid cat script rest versions done → rest ≡ lines.Job name spec own ∷ more
     → job ≡ record { number = length done; name = name; spec = spec; own = own }
-    → IsSeenOver cat.dimensions.n (seen_by (job_below versions job))
+    → IsSnapshotOver cat.dimensions.n (snapshot_of (job_below versions job))
 script_sees g old now grid cat script rest more versions done name spec own job sofar is job_is =
-    subst (λ (j : Job). IsSeenOver cat.dimensions.n (seen_by (job_below versions j))) (sym job_is)
+    subst (λ (j : Job). IsSnapshotOver cat.dimensions.n (snapshot_of (job_below versions j))) (sym job_is)
     (job_sees cat.dimensions.n (length done) versions.batches name spec own more (subst (AreBelow cat.dimensions.n (length done) versions.batches) is sofar.below))
 
 pub script_job : {D : Type 0} (g : Depot.Ghosts D) (old mid new : D) (grid : List ℕ) (cat : Catalogue) (script rest more : List Line) (versions : Versions) (done : List JobLine)

@@ -1,6 +1,7 @@
 -- A job from its admission on.
 use Rattle.std.specs.Prelude.{◌≡◌, ℕ, ◌≤◌, List, [], ◌∷◌, ◌++◌, length, All, Result, Ok, Err, IfOk}
 use Rattle.std.proofs.Common.{ap, ◌∙◌, subst, arith}
+use Rattle.std.proofs.Math.Seq.{take-length}
 use Rattle.std.proofs.lemmas.List.Elements.{All-tail}
 use Rattle.gm_base.specs.declared.job.Spec.{Spec}
 use Rattle.gm_outside.specs.declared.traits.Depot as Depot
@@ -12,12 +13,15 @@ use Rattle.gm_source.specs.Fetches.{TellsGrid}
 use Rattle.gm_changes.specs.Changes.{ChangesWithin}
 use Rattle.gm_versions.specs.declared.versions.Versions.{Versions}
 use Rattle.gm_versions.specs.Kept.{IsOf}
-use Rattle.gm_versions.specs.Views.{changes_up_to}
-use Rattle.gm_private.specs.OwnChanges.{IsSightOver}
+use Rattle.gm_changes.specs.declared.change.Change.{Change}
+use Rattle.gm_versions.specs.Contents.{all_changes}
+use Rattle.gm_private.specs.OwnChanges.{IsOwnOver, OwnChanges, snapshot_in}
 use Rattle.gm_work.specs.Views.{JobView, first_standing}
 use Rattle.gm_work.specs.Weights.{run_weight, weight_left}
 use Rattle.gm_work.specs.Held.{Held, admitted}
-use Rattle.gm_core.specs.SeenViews.{IsSeenOver, Seen, overlays_seen, seen_by, seen_view}
+use Rattle.gm_versions.specs.Snapshots.{IsSnapshotOver, Snapshot, overlays_of}
+use Rattle.gm_scripts.specs.ScriptJobs.{snapshot_of}
+use Rattle.gm_core.specs.SnapshotViews.{snapshot_view}
 use Rattle.gm_job_run.specs.declared.script_run.Job.{Job}
 use Rattle.gm_job_run.specs.JobLines.{job_below}
 use Rattle.gm_job_run.specs.JobRuns.{WhereUnderWay, pass_reads}
@@ -27,12 +31,12 @@ abbrev pub WeightBegins : Type 0
 WeightBegins = (d : JobView) (weight : ℕ → ℕ) → 1 ≤ most_rounds d.known.spec → weight_left d weight (first_standing d) ≡ run_weight d weight
 
 -- what holds after a call on a job that was just admitted, over a depot that tells the grid
-pub where-admitted : {D : Type 0} (g : Depot.Ghosts D) (depot : D) (name : List ℕ) (h : Held) (number : ℕ) (spec : Spec) (cat : Catalogue) (overlays : List Overlay) (seen : Seen) (bytes : List ℕ)
-    (Holds : JobView → (ℕ → ℕ) → ℕ → Type 0) → h ≡ admitted number spec cat overlays → overlays ≡ overlays_seen cat seen → 1 ≤ most_rounds spec → Begins → WeightBegins
-    → TellsGrid (g.files depot) name cat bytes → WhereUnderWay g depot name h seen Holds → Holds (seen_view spec cat (edges_in bytes) seen) (pass_reads cat) (g.reads depot)
+pub where-admitted : {D : Type 0} (g : Depot.Ghosts D) (depot : D) (name : List ℕ) (h : Held) (number : ℕ) (spec : Spec) (cat : Catalogue) (overlays : List Overlay) (seen : Snapshot) (bytes : List ℕ)
+    (Holds : JobView → (ℕ → ℕ) → ℕ → Type 0) → h ≡ admitted number spec cat overlays → overlays ≡ overlays_of cat seen → 1 ≤ most_rounds spec → Begins → WeightBegins
+    → TellsGrid (g.files depot) name cat bytes → WhereUnderWay g depot name h seen Holds → Holds (snapshot_view spec cat (edges_in bytes) seen) (pass_reads cat) (g.reads depot)
 where-admitted g depot name h number spec cat overlays seen bytes Holds is sees some begins weighs told holds =
-    let seeing : h ≡ admitted number spec cat (overlays_seen cat seen) = is ∙ ap (admitted number spec cat) sees in
-    let d = seen_view spec cat (edges_in bytes) seen in
+    let seeing : h ≡ admitted number spec cat (overlays_of cat seen) = is ∙ ap (admitted number spec cat) sees in
+    let d = snapshot_view spec cat (edges_in bytes) seen in
     subst (λ (k : Held). WhereUnderWay g depot name k seen Holds) seeing holds bytes (g.reads depot) told
     (under_way-begins d (pass_reads cat) (g.reads depot) some begins (weighs d (pass_reads cat) some))
 
@@ -45,11 +49,19 @@ All-behind : {X : Type 0} (P : X → Type 0) (xs ys : List X) → All P (xs ++ y
 All-behind P [] ys all = all
 All-behind P (x ∷ xs) ys all = All-behind P xs ys (All-tail P x (xs ++ ys) all)
 
--- a job below all of these updates
-pub sight_over : (cat : Catalogue) (versions : Versions) (job : Job) → IsOf cat versions → IsSeenOver cat.dimensions.n (seen_by (job_below versions job))
-    → IsSightOver cat versions (seen_by (job_below versions job)).sight
-sight_over cat versions job of over = record {
+-- a job's own changes, below so many updates
+abbrev pub own_of : Job → ℕ → OwnChanges
+own_of job version = record { job = job.number; version = version; changes = job.own }
+
+-- a job below all of these updates sees them all
+pub sees_all : (versions : Versions) (job : Job) → snapshot_in versions.batches (own_of job (length versions.batches)) ≡ snapshot_of (job_below versions job)
+sees_all versions job =
+    ap (λ (updates : List (List Change)). record { job = job.number; updates = updates; own = job.own }) (take-length versions.batches)
+
+pub own_over : (cat : Catalogue) (versions : Versions) (job : Job) → IsOf cat versions → IsSnapshotOver cat.dimensions.n (snapshot_of (job_below versions job))
+    → IsOwnOver cat versions (own_of job (length versions.batches))
+own_over cat versions job of over = record {
   versions = of;
   version = omega arith;
-  ends = All-behind (ChangesWithin cat.dimensions.n) (changes_up_to versions.batches (length versions.batches)) job.own over.ends;
+  ends = All-behind (ChangesWithin cat.dimensions.n) (all_changes versions.batches) job.own over.ends;
 }

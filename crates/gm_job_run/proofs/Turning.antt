@@ -21,7 +21,8 @@ use Rattle.gm_work.specs.Entries.{Known, Entry, owes_any, phases_left, turned, T
 use Rattle.gm_work.specs.Entries.Turning.{Goes, Ends}
 use Rattle.gm_work.specs.Views.{IsCutIntoChunks}
 use Rattle.gm_work.specs.Held.{Held, knows, known_of, IsSameJob, IsTurned}
-use Rattle.gm_core.specs.SeenViews.{Seen, IsSeenOver, overlays_seen, seen_view, view_through}
+use Rattle.gm_versions.specs.Snapshots.{Snapshot, IsSnapshotOver, overlays_of}
+use Rattle.gm_core.specs.SnapshotViews.{snapshot_view, view_through}
 use Rattle.gm_job_run.specs.SeenViews.{Sees}
 use Rattle.gm_job_run.specs.JobRuns.{IsUnderWay, AfterTurn, TurnsFor, Carries, StaysUnderWay, ReadsSome, pass_reads, view_over}
 use Rattle.gm_job_run.proofs.JobLemmas.{Turns, WeightTurns, AfterTurning, under_way-turns}
@@ -30,9 +31,9 @@ use Rattle.gm_job_run.proofs.Passing.{GoesOn, where-then, goes_on-then, carries-
 
 -- the law of what a job sees of a grid's chunks
 abbrev pub Cuts : Type 0
-Cuts = (spec : Spec) (cat : Catalogue) (edges : List Edge) (seen : Seen)
+Cuts = (spec : Spec) (cat : Catalogue) (edges : List Edge) (seen : Snapshot)
     → AreDimensions cat.dimensions.n cat.dimensions.parts → IsGraph cat.dimensions.n edges → length edges ≤ MAX_EDGES
-    → IsOver cat edges → IsSeenOver cat.dimensions.n seen → IsCutIntoChunks (seen_view spec cat edges seen)
+    → IsOver cat edges → IsSnapshotOver cat.dimensions.n seen → IsCutIntoChunks (snapshot_view spec cat edges seen)
 
 pub record Overs : Type 0 where
   pub over : (bytes : List ℕ) (size : ℕ) (cat : Catalogue) → IsCatalogueOf bytes size cat → IsOver cat (edges_in bytes)
@@ -40,7 +41,7 @@ pub record Overs : Type 0 where
   pub few : (bytes : List ℕ) (size : ℕ) (cat : Catalogue) → IsCatalogueOf bytes size cat → length (edges_in bytes) ≤ MAX_EDGES
   pub dimensions : (bytes : List ℕ) (size : ℕ) (cat : Catalogue) → IsCatalogueOf bytes size cat → AreDimensions cat.dimensions.n cat.dimensions.parts
 
-pub told_cut : (told : Option Files) (name : List ℕ) (h : Held) (seen : Seen) (bytes : List ℕ) → Cuts → Overs → Sees h seen → TellsGrid told name h.catalogue bytes
+pub told_cut : (told : Option Files) (name : List ℕ) (h : Held) (seen : Snapshot) (bytes : List ℕ) → Cuts → Overs → Sees h seen → TellsGrid told name h.catalogue bytes
     → IsCutIntoChunks (view_over h seen bytes)
 told_cut told name h seen bytes cuts overs sees tells =
     subst (λ (overlays : List Overlay). IsCutIntoChunks (view_through (known_of h.spec h.catalogue overlays) h.catalogue (edges_in bytes) seen)) (sym sees.overlays)
@@ -49,13 +50,13 @@ told_cut told name h seen bytes cuts overs sees tells =
     (overs.over bytes tells.size h.catalogue tells.catalogue) sees.over)
 
 -- the same job sees the same
-pub sees-still : (h other : Held) (seen : Seen) → IsSameJob h other → Sees h seen → Sees other seen
+pub sees-still : (h other : Held) (seen : Snapshot) → IsSameJob h other → Sees h seen → Sees other seen
 sees-still h other seen same sees = record {
-  overlays = same.overlays ∙ sees.overlays ∙ ap (λ (cat : Catalogue). overlays_seen cat seen) (sym same.catalogue);
-  over = subst (λ (cat : Catalogue). IsSeenOver cat.dimensions.n seen) (sym same.catalogue) sees.over;
+  overlays = same.overlays ∙ sees.overlays ∙ ap (λ (cat : Catalogue). overlays_of cat seen) (sym same.catalogue);
+  over = subst (λ (cat : Catalogue). IsSnapshotOver cat.dimensions.n seen) (sym same.catalogue) sees.over;
 }
 
-after_turn : (mid after : Held) (seen : Seen) (bytes : List ℕ) (first reads : ℕ) (answer : Turned) → IsCutIntoChunks (view_over mid seen bytes) → Turns → WeightTurns
+after_turn : (mid after : Held) (seen : Snapshot) (bytes : List ℕ) (first reads : ℕ) (answer : Turned) → IsCutIntoChunks (view_over mid seen bytes) → Turns → WeightTurns
     → IsTurned (knows mid) mid.entry answer after.entry → IsUnderWay (view_over mid seen bytes) (pass_reads mid.catalogue) first mid.entry reads
     → AfterTurn (view_over mid seen bytes) (pass_reads mid.catalogue) first answer after.entry reads
 after_turn mid after seen bytes first reads answer cut turns weighs is way = told answer is
@@ -71,19 +72,19 @@ after_turn mid after seen bytes first reads answer cut turns weighs is way = tol
     told (BoundTurn bound) so = turns_to (Ends (Rounds bound)) so
 
 -- a turn behind the passes of a phase
-turns_for : {D : Type 0} (g : Depot.Ghosts D) (depot : D) (name : List ℕ) (seen : Seen) (mid after : Held) (answer : Turned) → Sees mid seen
+turns_for : {D : Type 0} (g : Depot.Ghosts D) (depot : D) (name : List ℕ) (seen : Snapshot) (mid after : Held) (answer : Turned) → Sees mid seen
     → Cuts → Overs → Turns → WeightTurns → IsTurned (knows mid) mid.entry answer after.entry → TurnsFor g depot depot name seen mid after answer
 turns_for g depot name seen mid after answer sees cuts overs turns weighs is bytes first told way =
     after_turn mid after seen bytes first (g.reads depot) answer (told_cut (g.files depot) name mid seen bytes cuts overs sees told) turns weighs is way
 
 -- a phase was passed behind others, and then turned
-pub record PhaseTurned {D : Type 0} (g : Depot.Ghosts D) (old new : D) (name : List ℕ) (seen : Seen) (before after : Held) (answer : Turned) : Type 0 where
+pub record PhaseTurned {D : Type 0} (g : Depot.Ghosts D) (old new : D) (name : List ℕ) (seen : Snapshot) (before after : Held) (answer : Turned) : Type 0 where
   pub same : IsSameJob before after
   pub faults : g.faults new ≡ g.faults old
   pub frame : ReadsSome (depot_change g old new)
   pub turned : TurnsFor g old new name seen before after answer
 
-pub phase_turned : {D T : Type 0} (g : Depot.Ghosts D) (old mid new : D) (name : List ℕ) (seen : Seen) (h begun passed after : Held) (x : T) (answer : Turned) → Sees h seen
+pub phase_turned : {D T : Type 0} (g : Depot.Ghosts D) (old mid new : D) (name : List ℕ) (seen : Snapshot) (h begun passed after : Held) (x : T) (answer : Turned) → Sees h seen
     → GoesOn g old mid name seen h begun → Carries g mid new name seen begun passed (Ok x) → StaysUnderWay g mid new name seen begun passed → IsSameJob passed after
     → Cuts → Overs → Turns → WeightTurns → IsTurned (knows passed) passed.entry answer after.entry → PhaseTurned g old new name seen h after answer
 phase_turned g old mid new name seen h begun passed after x answer sees so_far carries stays same cuts overs turns weighs is = record {
@@ -98,7 +99,7 @@ phase_turned g old mid new name seen h begun passed after x answer sees so_far c
     on = goes_on-then g old mid new name seen h begun passed so_far (carries-on g mid new name seen begun passed x carries stays)
 
 -- .. which goes on
-pub turned-goes_on : {D : Type 0} (g : Depot.Ghosts D) (old new : D) (name : List ℕ) (seen : Seen) (before after : Held) (answer : Turned) → answer ≡ Owes
+pub turned-goes_on : {D : Type 0} (g : Depot.Ghosts D) (old new : D) (name : List ℕ) (seen : Snapshot) (before after : Held) (answer : Turned) → answer ≡ Owes
     → PhaseTurned g old new name seen before after answer → GoesOn g old new name seen before after
 turned-goes_on g old new name seen before after answer is_owes made =
     record { same = made.same; faults = made.faults; frame = made.frame; under_way = subst (TurnsFor g old new name seen before after) is_owes made.turned }

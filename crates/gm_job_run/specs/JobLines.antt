@@ -14,7 +14,9 @@ use Rattle.gm_kernel.specs.Runs.{lone_run}
 use Rattle.gm_work.specs.Views.{JobView}
 use Rattle.gm_work.specs.Weights.{run_weight}
 use Rattle.gm_job_run.specs.JobRuns.{FailsToRead, pass_reads}
-use Rattle.gm_core.specs.SeenViews.{seen_by, edges_seen, seen_view}
+use Rattle.gm_versions.specs.Snapshots.{edges_of}
+use Rattle.gm_scripts.specs.ScriptJobs.{snapshot_of}
+use Rattle.gm_core.specs.SnapshotViews.{snapshot_view}
 
 -- the job, below all of these updates
 abbrev pub job_below : Versions → Job → StatedJob
@@ -50,7 +52,7 @@ IsTold Memory = ⊥
 
 -- a job over what it sees of these edges
 abbrev pub view_of_job : Catalogue → List Edge → StatedJob → JobView
-view_of_job cat edges job = seen_view job.spec cat edges (seen_by job)
+view_of_job cat edges job = snapshot_view job.spec cat edges (snapshot_of job)
 
 -- how many reads the lone runs of these jobs take over these edges, each phase those of the chunks that it needs
 abbrev pub runs_weight : Catalogue → List Edge → List StatedJob → ℕ
@@ -59,7 +61,7 @@ runs_weight cat edges jobs = sum_by (λ job. run_weight (view_of_job cat edges j
 -- the job ended as its lone run over all edges that it sees, or at a chunk that it needed and that couldn't be read
 abbrev pub EndsOver : Catalogue → List Edge → Bool → StatedJob → Outcome → Type 0
 EndsOver cat edges calm job outcome =
-    (outcome ≡ lone_run job.spec cat.dimensions.n (edges_seen edges (seen_by job))) ⊎ FailsToRead (view_of_job cat edges job) calm outcome
+    (outcome ≡ lone_run job.spec cat.dimensions.n (edges_of edges (snapshot_of job))) ⊎ FailsToRead (view_of_job cat edges job) calm outcome
 
 -- Jobs were run one after the other over a grid's edges. Without a failed read that took exactly the reads of their lone runs.
 pub record RunOver (cat : Catalogue) (edges : List Edge) (depot : DepotChange) (jobs : List StatedJob) (lines : List JobLine) : Type 0 where

@@ -21,7 +21,8 @@ use Rattle.gm_grid.specs.GridBytes.{edges_in}
 use Rattle.gm_source.specs.declared.fetching.FetchError.{FetchError}
 use Rattle.gm_source.specs.declared.fetching.FetchError.TheVariants as fetch
 use Rattle.gm_work.specs.Held.{Held, IsSameJob, knows}
-use Rattle.gm_core.specs.SeenViews.{Seen, view_through}
+use Rattle.gm_versions.specs.Snapshots.{Snapshot}
+use Rattle.gm_core.specs.SnapshotViews.{view_through}
 use Rattle.gm_job_run.specs.declared.job_run.Stop.{Stop}
 use Rattle.gm_job_run.specs.declared.job_run.Stop.TheVariants.{Read, Changed, Memory}
 
@@ -59,17 +60,17 @@ pub record IsUnderWay (d : JobView) (reads_of : ℕ → ℕ) (first : ℕ) (e : 
   pub counted : reads ≡ counted_times made first
 
 -- the job over what it sees of the edges that these bytes of its grid tell
-abbrev pub view_over : Held → Seen → List ℕ → JobView
+abbrev pub view_over : Held → Snapshot → List ℕ → JobView
 view_over h seen bytes = view_through (knows h) h.catalogue (edges_in bytes) seen
 
 -- where the job was under way before a call, over a depot that tells its grid, this holds after it, with its reads before its first one
-abbrev pub WhereUnderWay : {D : Type 0} → Depot.Ghosts D → D → List ℕ → Held → Seen → (JobView → (ℕ → ℕ) → ℕ → Type 0) → Type 0
+abbrev pub WhereUnderWay : {D : Type 0} → Depot.Ghosts D → D → List ℕ → Held → Snapshot → (JobView → (ℕ → ℕ) → ℕ → Type 0) → Type 0
 WhereUnderWay g depot name h seen Holds = (bytes : List ℕ) (first : ℕ) → TellsGrid (g.files depot) name h.catalogue bytes
     → IsUnderWay (view_over h seen bytes) (pass_reads h.catalogue) first h.entry (g.reads depot)
     → Holds (view_over h seen bytes) (pass_reads h.catalogue) first
 
 -- it is still under way
-abbrev pub StaysUnderWay : {D : Type 0} → Depot.Ghosts D → D → D → List ℕ → Seen → Held → Held → Type 0
+abbrev pub StaysUnderWay : {D : Type 0} → Depot.Ghosts D → D → D → List ℕ → Snapshot → Held → Held → Type 0
 StaysUnderWay g old new name seen before after = WhereUnderWay g old name before seen (λ d reads_of first. IsUnderWay d reads_of first after.entry (g.reads new))
 
 -- why a fetch of a chunk stops its job
@@ -146,16 +147,16 @@ abbrev pub JobEnds : JobView → (ℕ → ℕ) → DepotChange → Outcome → T
 JobEnds d reads_of depot outcome = IsEnd d reads_of depot.reads outcome depot.reads_now ⊎ FailsToRead d depot.calm outcome
 
 -- .. after this turn it goes on, or has ended well
-abbrev pub TurnsFor : {D : Type 0} → Depot.Ghosts D → D → D → List ℕ → Seen → Held → Held → Turned → Type 0
+abbrev pub TurnsFor : {D : Type 0} → Depot.Ghosts D → D → D → List ℕ → Snapshot → Held → Held → Turned → Type 0
 TurnsFor g old new name seen before after turned = WhereUnderWay g old name before seen (λ d reads_of first. AfterTurn d reads_of first turned after.entry (g.reads new))
 
 -- .. it stopped for a reason, after no more reads than its run takes
-abbrev pub StopsFor : {D : Type 0} → Depot.Ghosts D → D → D → List ℕ → Seen → Held → Stop → Type 0
+abbrev pub StopsFor : {D : Type 0} → Depot.Ghosts D → D → D → List ℕ → Snapshot → Held → Stop → Type 0
 StopsFor g old new name seen before stop = WhereUnderWay g old name before seen
     (λ d reads_of first. StopsBy d (g.calm old) stop × (g.reads new ≤ first + run_weight d reads_of))
 
 -- what every call on a job says: it is the same job over the same chunks, it stopped for a reason if it did, and the depot was only read
-pub record Carries {D T : Type 0} (g : Depot.Ghosts D) (old new : D) (name : List ℕ) (seen : Seen) (before after : Held) (result : Result T Stop) : Type 0 where
+pub record Carries {D T : Type 0} (g : Depot.Ghosts D) (old new : D) (name : List ℕ) (seen : Snapshot) (before after : Held) (result : Result T Stop) : Type 0 where
   pub same : IsSameJob before after
   pub chunk : IfErr result (IsOfChunks (length before.catalogue.places))
   pub stops : IfErr result (StopsFor g old new name seen before)

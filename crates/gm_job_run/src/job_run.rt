@@ -11,7 +11,8 @@ ghost use Rattle.gm_grid.specs.GridBytes.{edges_in};
 ghost use Rattle.gm_source.specs.Fetches.{TellsGrid, FitsCatalogue};
 ghost use Rattle.gm_label.specs.Catalogues.{base_at};
 ghost use Rattle.gm_kernel.specs.Runs.{most_rounds};
-ghost use Rattle.gm_core.specs.SeenViews.{IsSeenOver, chunk_seen, overlays_seen, seen_view};
+ghost use Rattle.gm_versions.specs.Snapshots.{IsSnapshotOver, content_of, overlays_of};
+ghost use Rattle.gm_core.specs.SnapshotViews.{snapshot_view};
 ghost use Rattle.gm_job_run.specs.SeenViews.{IsViewOf, Sees, seen_in};
 ghost use Rattle.gm_active.specs.Bits.{is_in};
 ghost use Rattle.gm_label.specs.Overlays.{key_at};
@@ -87,12 +88,12 @@ fn fetch_copy<D: Depot>(
 ) -> Result<ChunkCopy, Stop>
     requires chunk { key.chunk < length cat.now.places }
     requires view { IsViewOf cat.now view.now }
-    requires key { key ≡ key_at (overlays_seen cat.now (seen_in view.now)) key.chunk }
-    requires over { IsSeenOver cat.now.dimensions.n (seen_in view.now) }
+    requires key { key ≡ key_at (overlays_of cat.now (seen_in view.now)) key.chunk }
+    requires over { IsSnapshotOver cat.now.dimensions.n (seen_in view.now) }
     ensures key { IfOk result (λ copy. copy.key ≡ key) }
     ensures ends { IfOk result (λ copy. All (HasEndsBelow cat.now.dimensions.n) copy.edges) }
     ensures told { (bytes : List ℕ) → TellsGrid (D.files depot.old) view.now.name.now cat.now bytes
-        → IfOk result (λ copy. copy.edges ≡ chunk_seen cat.now (edges_in bytes) (seen_in view.now) key.chunk) }
+        → IfOk result (λ copy. copy.edges ≡ content_of cat.now (edges_in bytes) (seen_in view.now) key.chunk) }
     ensures told_stop { (bytes : List ℕ) → TellsGrid (D.files depot.old) view.now.name.now cat.now bytes → IfErr result (IsToldStop (D.calm depot.old)) }
     ensures stop { IfErr result (OfChunk key.chunk) }
     ensures read { OnOk result (D.reads depot.new ≡ counted_times (pass_reads cat.now key.chunk) (D.reads depot.old)) }
@@ -234,12 +235,12 @@ pub(crate) fn run_job<D: Depot>(
 ) -> Result<Outcome, Memory>
     requires some { 1 ≤ most_rounds spec }
     requires view { IsViewOf (arc_value cat) view.now }
-    requires over { IsSeenOver (arc_value cat).dimensions.n (seen_in view.now) }
+    requires over { IsSnapshotOver (arc_value cat).dimensions.n (seen_in view.now) }
     ensures ends { (bytes : List ℕ) → TellsGrid (D.files depot.old) view.now.name.now (arc_value cat) bytes
-        → IfOk result (JobEnds (seen_view spec (arc_value cat) (edges_in bytes) (seen_in view.now)) (pass_reads (arc_value cat))
+        → IfOk result (JobEnds (snapshot_view spec (arc_value cat) (edges_in bytes) (seen_in view.now)) (pass_reads (arc_value cat))
         (depot_change ⟦<D as Depot>⟧ depot.old depot.new)) }
     ensures few { (bytes : List ℕ) → TellsGrid (D.files depot.old) view.now.name.now (arc_value cat) bytes
-        → D.reads depot.new ≤ D.reads depot.old + run_weight (seen_view spec (arc_value cat) (edges_in bytes) (seen_in view.now)) (pass_reads (arc_value cat)) }
+        → D.reads depot.new ≤ D.reads depot.old + run_weight (snapshot_view spec (arc_value cat) (edges_in bytes) (seen_in view.now)) (pass_reads (arc_value cat)) }
     ensures faults { MatchResult result (FaultsFor (D.faults depot.old) (D.faults depot.new)) (λ _. D.faults depot.new ≡ D.faults depot.old) }
     ensures frame { ReadsSome (depot_change ⟦<D as Depot>⟧ depot.old depot.new) }
 {

@@ -12,7 +12,8 @@ ghost use Rattle.gm_job_run.specs.JobLines.{AreLinesOfJobs, IsTold, RunOver, Fau
 ghost use Rattle.gm_kernel.specs.Runs.{most_rounds};
 ghost use Rattle.gm_work.specs.Weights.{run_weight};
 ghost use Rattle.gm_versions.specs.Kept.{IsOf};
-ghost use Rattle.gm_core.specs.SeenViews.{IsSeenOver, seen_by};
+ghost use Rattle.gm_versions.specs.Snapshots.{IsSnapshotOver};
+ghost use Rattle.gm_scripts.specs.ScriptJobs.{snapshot_of};
 
 use crate::job_run::run_job;
 use crate::view::View;
@@ -50,7 +51,7 @@ fn run_line<D: Depot>(
 ) -> Result<JobLine, Memory>
     requires some { 1 ≤ most_rounds job.spec }
     requires versions { IsOf (arc_value cat) versions.now }
-    requires over { IsSeenOver (arc_value cat).dimensions.n (seen_by (job_below versions.now job)) }
+    requires over { IsSnapshotOver (arc_value cat).dimensions.n (snapshot_of (job_below versions.now job)) }
     ensures line { IfOk result (λ line. line ≡ line_of_job (job_below versions.now job) line.outcome) }
     ensures ends { (bytes : List ℕ) → TellsGrid (D.files depot.old) grid.now (arc_value cat) bytes
         → IfOk result (λ line. JobEnds (view_of_job (arc_value cat) (edges_in bytes) (job_below versions.now job)) (pass_reads (arc_value cat))

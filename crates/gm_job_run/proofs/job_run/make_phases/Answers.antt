@@ -15,7 +15,7 @@ returns-in_default g c =
     let passed = c.in_ok-pass_owed.ensures in
     let laws = c.catalogues_are_over_their_edges.ensures in
     let made = phase_turned g.D.Depot _ _ _ c.args.view.now.name.now (seen_in c.args.view.now) c.args.work.now c.loop-work.work c.pass_owed.new.work c.turn.new.self _ c.turn.result c.requires.sees
-    c.loop-work.invariant passed.carries (λ bytes first told way. passed.under_way bytes first told way) c.turn.ensures.job c.views_are_cut.ensures
+    c.loop-work.invariant passed.carries (λ bytes first told way. passed.under_way bytes first told way) c.turn.ensures.job c.views_are_cut.ensures.view
     (record { over = laws.over; graph = laws.graph; few = laws.few; dimensions = laws.dimensions }) c.turns.ensures c.weight_is_left.ensures.turns c.turn.ensures.turned in
     record {
       ended = has_ended c.turn.result c.in_default.not-Owes;
@@ -29,7 +29,7 @@ loop-work-preserved g c =
     let laws = c.catalogues_are_over_their_edges.ensures in
     turned-goes_on g.D.Depot _ _ c.args.view.now.name.now (seen_in c.args.view.now) c.args.work.now c.turn.new.self c.turn.result c.in-Owes.is
     (phase_turned g.D.Depot _ _ _ c.args.view.now.name.now (seen_in c.args.view.now) c.args.work.now c.loop-work.work c.pass_owed.new.work c.turn.new.self _ c.turn.result c.requires.sees
-    c.loop-work.invariant passed.carries (λ bytes first told way. passed.under_way bytes first told way) c.turn.ensures.job c.views_are_cut.ensures
+    c.loop-work.invariant passed.carries (λ bytes first told way. passed.under_way bytes first told way) c.turn.ensures.job c.views_are_cut.ensures.view
     (record { over = laws.over; graph = laws.graph; few = laws.few; dimensions = laws.dimensions }) c.turns.ensures c.weight_is_left.ensures.turns c.turn.ensures.turned)
 
 pub loop-work-smaller : goal.loop-work-smaller

@@ -16,7 +16,7 @@ use Rattle.gm_work.specs.Held.{Held, knows}
 use Rattle.gm_outside.specs.Causes.{counted_times}
 use Rattle.gm_job_run.specs.declared.job_run.Stop.{Stop}
 use Rattle.gm_job_run.specs.JobRuns.{OfChunk, view_over, pass_reads}
-use Rattle.gm_core.specs.SeenViews.{chunk_seen, overlays_seen}
+use Rattle.gm_versions.specs.Snapshots.{content_of, overlays_of}
 use Rattle.gm_job_run.specs.SeenViews.{seen_in}
 use Rattle.gm_job_run.proofs.Copies.{key_at-chunk}
 use Rattle.gm_job_run.proofs.JobLemmas.{chunk_passed, stops_by, under_way-needed, under_way-few}
@@ -49,8 +49,8 @@ fetch_copy-requires-clause-key g c =
     let seen = seen_in c.args.view.now in
     let here = at_chunk c.args.work.now.overlays c.args.chunk c.key-key.result c.key-key.ensures in
     c.key-key.ensures
-    ∙ ap (λ (os : List Overlay). key_at os c.args.chunk) (c.requires.sees.overlays ∙ ap (λ (cat : Catalogue). overlays_seen cat seen) (sym c.catalogue.ensures))
-    ∙ ap (key_at (overlays_seen c.catalogue.result.now seen)) (sym here)
+    ∙ ap (λ (os : List Overlay). key_at os c.args.chunk) (c.requires.sees.overlays ∙ ap (λ (cat : Catalogue). overlays_of cat seen) (sym c.catalogue.ensures))
+    ∙ ap (key_at (overlays_of c.catalogue.result.now seen)) (sym here)
 
 pub returns-in_err-copy-clause-carries : goal.returns-in_err-copy-clause-carries
 returns-in_err-copy-clause-carries g c =
@@ -99,7 +99,7 @@ returns-clause-under_way g c bytes first told way =
     let key = c.in_ok-copy.ensures.key in
     chunk_passed work c.pass.new.self seen bytes first c.args.chunk _ _ _ c.in_ok-copy.copy.key c.in_ok-copy.copy.edges c.passes.ensures c.determined.ensures.owed c.weight_is_left.ensures.passes
     c.catalogue.ensures c.requires.owed (key ∙ c.key-key.ensures) (ap (λ (k : Key). k.chunk) key ∙ here) c.pass.ensures
-    (c.in_ok-copy.ensures.told bytes told_there ∙ ap (chunk_seen c.catalogue.result.now (edges_in bytes) seen) here)
+    (c.in_ok-copy.ensures.told bytes told_there ∙ ap (content_of c.catalogue.result.now (edges_in bytes) seen) here)
     (subst (λ (n : ℕ). g.D.Depot.reads c.fetch_copy.new.depot ≡ counted_times (pass_reads c.catalogue.result.now n) (g.D.Depot.reads c.args.depot.now)) here c.in_ok-copy.ensures.read) way
 
 pub returns-clause-carries : goal.returns-clause-carries

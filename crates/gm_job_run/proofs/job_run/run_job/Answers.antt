@@ -8,7 +8,7 @@ use Rattle.gm_label.specs.Catalogues.{Catalogue}
 use Rattle.gm_work.specs.Held.{Held}
 use Rattle.gm_work.specs.Weights.{run_weight}
 use Rattle.gm_job_run.specs.JobRuns.{IsEnd, StopsBy, pass_reads, outcome_of_stop, outcome_of_turn, view_over}
-use Rattle.gm_core.specs.SeenViews.{overlays_seen}
+use Rattle.gm_versions.specs.Snapshots.{overlays_of}
 use Rattle.gm_job_run.specs.SeenViews.{Sees, seen_in}
 use Rattle.gm_job_run.proofs.Starting.{where-admitted, ok_weaker}
 use Rattle.gm_job_run.proofs.Ending.{turn_ends, end_few, stop_ends}
@@ -18,14 +18,14 @@ pub returns-in-Ok-clause-ends : goal.returns-in-Ok-clause-ends
 returns-in-Ok-clause-ends g c bytes told =
     rw c.outcome_of_turn.ensures (inl (where-admitted g.D.Depot c.args.depot.now c.args.view.now.name.now c.in_ok-work.work c.job.result c.args.spec (arc_value c.args.cat) _ (seen_in c.args.view.now) bytes
     (λ d reads_of first. IsEnd d reads_of first (outcome_of_turn c.make_phases.new.work.entry.values c.in-Ok.turned) (g.D.Depot.reads c.make_phases.new.depot))
-    c.in_ok-work.ensures (c.in_ok-overlays.ensures.value ∙ ap (λ (cat : Catalogue). overlays_seen cat (seen_in c.args.view.now)) c.deref.ensures) c.requires.some c.begins.ensures c.weight_is_left.ensures.begins told
+    c.in_ok-work.ensures (c.in_ok-overlays.ensures.value ∙ ap (λ (cat : Catalogue). overlays_of cat (seen_in c.args.view.now)) c.deref.ensures) c.requires.some c.begins.ensures c.weight_is_left.ensures.begins told
     (λ bytes first told way. turn_ends _ _ first _ c.make_phases.new.work.entry c.in-Ok.turned c.in-Ok.ensures.ended (c.in-Ok.ensures.turned bytes first told way))))
 
 pub returns-in-Ok-clause-few : goal.returns-in-Ok-clause-few
 returns-in-Ok-clause-few g c bytes told =
     where-admitted g.D.Depot c.args.depot.now c.args.view.now.name.now c.in_ok-work.work c.job.result c.args.spec (arc_value c.args.cat) _ (seen_in c.args.view.now) bytes
     (λ d reads_of first. g.D.Depot.reads c.make_phases.new.depot ≤ first + run_weight d reads_of)
-    c.in_ok-work.ensures (c.in_ok-overlays.ensures.value ∙ ap (λ (cat : Catalogue). overlays_seen cat (seen_in c.args.view.now)) c.deref.ensures) c.requires.some c.begins.ensures c.weight_is_left.ensures.begins told
+    c.in_ok-work.ensures (c.in_ok-overlays.ensures.value ∙ ap (λ (cat : Catalogue). overlays_of cat (seen_in c.args.view.now)) c.deref.ensures) c.requires.some c.begins.ensures c.weight_is_left.ensures.begins told
     (λ bytes first told way. end_few (view_over c.in_ok-work.work (seen_in c.args.view.now) bytes) (pass_reads c.in_ok-work.work.catalogue) first _ _ (turn_ends _ _ first _ c.make_phases.new.work.entry c.in-Ok.turned c.in-Ok.ensures.ended (c.in-Ok.ensures.turned bytes first told way)))
 
 pub returns-in-Err-clause-ends : goal.returns-in-Err-clause-ends
@@ -35,7 +35,7 @@ returns-in-Err-clause-ends g c bytes told =
     let calm = g.D.Depot.calm c.args.depot.now in
     let same : c.catalogue.result.now ≡ cat = c.catalogue.ensures ∙ c.make_phases.ensures.carries.same.catalogue ∙ ap (λ (h : Held). h.catalogue) c.in_ok-work.ensures in
     let stops = where-admitted g.D.Depot c.args.depot.now c.args.view.now.name.now c.in_ok-work.work c.job.result spec cat _ (seen_in c.args.view.now) bytes (λ d reads_of first. StopsBy d calm c.in-Err.stop)
-    c.in_ok-work.ensures (c.in_ok-overlays.ensures.value ∙ ap (λ (cat : Catalogue). overlays_seen cat (seen_in c.args.view.now)) c.deref.ensures) c.requires.some c.begins.ensures c.weight_is_left.ensures.begins told (λ bytes first told way. (c.in-Err.ensures.carries.stops bytes first told way).0) in
+    c.in_ok-work.ensures (c.in_ok-overlays.ensures.value ∙ ap (λ (cat : Catalogue). overlays_of cat (seen_in c.args.view.now)) c.deref.ensures) c.requires.some c.begins.ensures c.weight_is_left.ensures.begins told (λ bytes first told way. (c.in-Err.ensures.carries.stops bytes first told way).0) in
     ok_weaker _ _ c.outcome_of_stop.result
     (λ (outcome : Outcome) ends. stop_ends spec cat (edges_in bytes) (seen_in c.args.view.now) (pass_reads cat) (depot_change g.D.Depot c.args.depot.now c.make_phases.new.depot) c.in-Err.stop outcome
     (ends ∙ ap (λ (known : Catalogue). outcome_of_stop known c.in-Err.stop) same) stops)
@@ -45,13 +45,13 @@ pub returns-in-Err-clause-few : goal.returns-in-Err-clause-few
 returns-in-Err-clause-few g c bytes told =
     where-admitted g.D.Depot c.args.depot.now c.args.view.now.name.now c.in_ok-work.work c.job.result c.args.spec (arc_value c.args.cat) _ (seen_in c.args.view.now) bytes
     (λ d reads_of first. g.D.Depot.reads c.make_phases.new.depot ≤ first + run_weight d reads_of)
-    c.in_ok-work.ensures (c.in_ok-overlays.ensures.value ∙ ap (λ (cat : Catalogue). overlays_seen cat (seen_in c.args.view.now)) c.deref.ensures) c.requires.some c.begins.ensures c.weight_is_left.ensures.begins told
+    c.in_ok-work.ensures (c.in_ok-overlays.ensures.value ∙ ap (λ (cat : Catalogue). overlays_of cat (seen_in c.args.view.now)) c.deref.ensures) c.requires.some c.begins.ensures c.weight_is_left.ensures.begins told
     (λ bytes first told way. (c.in-Err.ensures.carries.stops bytes first told way).1)
 
 pub make_phases-requires-clause-sees : goal.make_phases-requires-clause-sees
 make_phases-requires-clause-sees g c =
     let seen = seen_in c.args.view.now in
     subst (λ (h : Held). Sees h seen) (sym c.in_ok-work.ensures) (record {
-      overlays = c.in_ok-overlays.ensures.value ∙ ap (λ (cat : Catalogue). overlays_seen cat seen) c.deref.ensures;
+      overlays = c.in_ok-overlays.ensures.value ∙ ap (λ (cat : Catalogue). overlays_of cat seen) c.deref.ensures;
       over = c.requires.over;
     })

@@ -18,7 +18,8 @@ use Rattle.gm_work.specs.Weights.{run_weight}
 use Rattle.gm_job_run.specs.JobRuns.{pass_reads}
 use Rattle.gm_job_run.specs.declared.script_run.Job.{Job}
 use Rattle.gm_job_run.specs.JobLines.{job_below, runs_weight, view_of_job}
-use Rattle.gm_core.specs.SeenViews.{IsSeenOver, seen_by}
+use Rattle.gm_versions.specs.Snapshots.{IsSnapshotOver}
+use Rattle.gm_scripts.specs.ScriptJobs.{snapshot_of}
 use Rattle.gm_job_run.proofs.Listing.{all_done, ends_for, few_for, few_sofar, frame_next}
 use Rattle.gm_job_run.proofs.Scripts.{ScriptSoFar, script_begins, script_job, script_few, script_sees, script_update, script_wait}
 use Rattle.gm_job_run.proofs.script_run.run_script.Goals as goal
@@ -59,7 +60,7 @@ returns-in_err-cat-in-Job-clause-few g c = few_sofar g.D.Depot _ _ _ _ _ _ _ c.l
 pub run_line-requires-clause-over : goal.run_line-requires-clause-over
 run_line-requires-clause-over g c =
     let job : Job = record { number = c.len-number.result; name = c.in-Job.name; spec = c.in-Job.spec; own = c.in-Job.own } in
-    subst (λ (cat : Catalogue). IsSeenOver cat.dimensions.n (seen_by (job_below c.loop-entry.versions job))) (sym c.in_ok-cat-in-Job.ensures.cases)
+    subst (λ (cat : Catalogue). IsSnapshotOver cat.dimensions.n (snapshot_of (job_below c.loop-entry.versions job))) (sym c.in_ok-cat-in-Job.ensures.cases)
     (script_sees g.D.Depot _ _ _ _ _ _ _ c.loop-entry.versions _ c.in-Job.name c.in-Job.spec c.in-Job.own job c.loop-entry.invariant.2
     (entry_is (into_iter_items c.next.new.self) c.in-Some.ensures.steps.0 c.in-Job.is) (numbered c.in-Job.name c.in-Job.spec c.in-Job.own (c.len-number.ensures ∙ c.loop-entry.lines.ok.0)))
 
