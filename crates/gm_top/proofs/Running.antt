@@ -23,7 +23,8 @@ use Rattle.gm_source.specs.Fetches.{TellsGrid}
 use Rattle.gm_job_run.specs.JobLines.{AreLinesOfJobs, EndsOver, FaultsOf, IsTold, RunOver, runs_weight}
 use Rattle.gm_jobs.specs.declared.script.Line.{Line}
 use Rattle.gm_jobs.specs.StatedJobs.{StatedJob, jobs_of}
-use Rattle.gm_core.specs.SeenViews.{Seen, IsSeenOver, edges_seen, seen_by}
+use Rattle.gm_scripts.specs.ScriptJobs.{snapshot_of}
+use Rattle.gm_versions.specs.Snapshots.{Snapshot, IsSnapshotOver, edges_of}
 use Rattle.gm_words.specs.Commands.{RunCommand}
 use Rattle.gm_commands.specs.declared.failure.Failure.{Failure}
 use Rattle.gm_commands.specs.Readings.{ReadsFiles}
@@ -39,10 +40,10 @@ Settles = (spec : Spec) (n : ℕ) (edges : List Edge) (rounds : ℕ) → IsGraph
 
 -- the law of the graphs that jobs see
 abbrev pub Views : Type 0
-Views = (n : ℕ) (edges : List Edge) (seen : Seen) → IsGraph n edges → IsSeenOver n seen → IsGraph n (edges_seen edges seen)
+Views = (n : ℕ) (edges : List Edge) (seen : Snapshot) → IsGraph n edges → IsSnapshotOver n seen → IsGraph n (edges_of edges seen)
 
 abbrev pub SeesVertices : ℕ → List StatedJob → Type 0
-SeesVertices n jobs = All (λ (job : StatedJob). IsSeenOver n (seen_by job)) jobs
+SeesVertices n jobs = All (λ (job : StatedJob). IsSnapshotOver n (snapshot_of job)) jobs
 
 abbrev pub Graphs : Type 0
 Graphs = (bytes : List ℕ) (size : ℕ) (cat : Catalogue) → IsCatalogueOf bytes size cat → IsGraph cat.dimensions.n (edges_in bytes) × (1 ≤ cat.dimensions.n)
@@ -56,10 +57,10 @@ early spec n edges outcome settles graph some is bound at =
 
 -- a job that ended over what it sees of the grid's edges did so in time
 in_time : (cat : Catalogue) (edges : List Edge) (calm : Bool) → Settles → Views → IsGraph cat.dimensions.n edges → 1 ≤ cat.dimensions.n
-    → (job : StatedJob) (outcome : Outcome) → IsSeenOver cat.dimensions.n (seen_by job) → EndsOver cat edges calm job outcome → EndsInTime cat edges calm job outcome
+    → (job : StatedJob) (outcome : Outcome) → IsSnapshotOver cat.dimensions.n (snapshot_of job) → EndsOver cat edges calm job outcome → EndsInTime cat edges calm job outcome
 in_time cat edges calm settles views graph some job outcome seen (inl alone) = (
   inl alone,
-  early job.spec cat.dimensions.n (edges_seen edges (seen_by job)) outcome settles (views cat.dimensions.n edges (seen_by job) graph seen) some alone,
+  early job.spec cat.dimensions.n (edges_of edges (snapshot_of job)) outcome settles (views cat.dimensions.n edges (snapshot_of job) graph seen) some alone,
 )
 in_time cat edges calm settles views graph some job outcome seen (inr fails) = (inr fails, λ bound at. absurd (let other = sym fails.is ∙ at in cc))
 

@@ -22,7 +22,6 @@ ghost use Rattle.gm_top.specs.RunReadings.{IsRefusalOrMemory, jobs_text_refusal,
 
 use gm_base::{JobLine, Memory, Outcome};
 use gm_commands::{Failure, FileText, Operand, Refusal, read_file};
-use gm_core::laws::{jobs_see_vertices, views_are_graphs};
 use gm_grid::laws::grid_reads_back;
 use gm_job_run::run_script;
 use gm_jobs::laws::{long_text_is_refused, scripts_are_within_bounds};
@@ -31,8 +30,10 @@ use gm_kernel::laws::jobs_settle_by_round_n;
 use gm_label::Catalogue;
 use gm_outside::{Depot, Sink};
 use gm_report::write;
+use gm_scripts::laws::jobs_see_vertices;
 use gm_source::laws::catalogues_are_over_their_edges;
 use gm_tools::load_grid;
+use gm_versions::laws::snapshots_are_graphs;
 use gm_words::RunCommand;
 use std::alloc::Global;
 use std::sync::Arc;
@@ -150,7 +151,7 @@ fn compute<D: Depot>(
     grid_reads_back();
     jobs_settle_by_round_n();
     catalogues_are_over_their_edges();
-    views_are_graphs();
+    snapshots_are_graphs();
     jobs_see_vertices();
     let (cat, script) = load(alloc, depot, command)?;
     run_loaded(alloc, depot, command.grid, cat, script)

@@ -19,8 +19,8 @@ returns-clause-lines g c =
     let command = run_said c.args.command.now in
     let files = subst (λ (r : Result (Catalogue × List Line) Failure). ReadsFiles (3 + MAX_CHUNKS) (files_reading command) (depot_change g.D.Depot c.args.depot.now c.load.new.depot) r) c.in_ok-cat.was c.load.ensures.reads in
     let graphs : Graphs = λ bytes size cat is. (c.catalogues_are_over_their_edges.ensures.graph bytes size cat is, (c.catalogues_are_over_their_edges.ensures.dimensions bytes size cat is).some_vertex) in
-    lines_reported g.D.Depot _ _ _ command c.in_ok-cat.cat c.in_ok-cat.script c.run_loaded.result files c.in_ok-cat.ensures.read c.grid_reads_back.ensures.edges c.jobs_settle_by_round_n.ensures.bound c.views_are_graphs.ensures graphs
-    (c.jobs_see_vertices.ensures _ c.in_ok-cat.script c.in_ok-cat.ensures.over)
+    lines_reported g.D.Depot _ _ _ command c.in_ok-cat.cat c.in_ok-cat.script c.run_loaded.result files c.in_ok-cat.ensures.read c.grid_reads_back.ensures.edges c.jobs_settle_by_round_n.ensures.bound c.snapshots_are_graphs.ensures graphs
+    (c.jobs_see_vertices.ensures.vertices _ c.in_ok-cat.script c.in_ok-cat.ensures.over)
     c.in_ok-cat.ensures.states c.in_ok-cat.ensures.holds c.run_loaded.ensures.lines c.run_loaded.ensures.ends c.run_loaded.ensures.faults
 
 pub returns-clause-reads : goal.returns-clause-reads
