@@ -4,8 +4,6 @@
 mod here;
 mod run_call;
 mod starting;
-#[cfg(test)]
-mod tests;
 mod top_call;
 
 pub use here::run_here;

@@ -1,5 +1,5 @@
 //! Files that are no grid, or nearly none, each in a run.
-use super::{PATH, REPORT, RUN, check_end, padded, run_over};
+use crate::calls::{PATH, REPORT, RUN, check_end, padded, run_over};
 use std::test::Fail;
 
 /// The report over the grid with this byte changed in its lowest bit, where it is a grid still: worked out apart from the program.
@@ -24,7 +24,7 @@ fn changed_at(rt: &HostRuntime, place: usize) -> Result<Vec<u8>, Fail> {
 }
 
 /// The front of the file.
-pub(super) fn cut_at(place: usize) -> &'static [u8] {
+pub(crate) fn cut_at(place: usize) -> &'static [u8] {
     let file = PATH;
     if place < file.len() {
         &file[..place]

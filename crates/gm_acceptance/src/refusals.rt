@@ -1,6 +1,6 @@
 //! Words and files that are refused, and the calls that are made of it.
-use super::grids::cut_at;
-use super::{PATH, USAGE, call_over, check_calls, check_end, depot_of, run_over};
+use crate::calls::{PATH, USAGE, call_over, check_calls, check_end, depot_of, run_over};
+use crate::grids::cut_at;
 use gm_fakes::{Call, NotingDepot};
 use std::test::Fail;
 

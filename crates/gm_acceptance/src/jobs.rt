@@ -1,5 +1,5 @@
 //! Job texts of several jobs, and job texts that are refused, each in a run over the path's grid.
-use super::{PATH, REPORT, RUN, call_over, check_end, depot_of, run_job};
+use crate::calls::{PATH, REPORT, RUN, call_over, check_end, depot_of, run_job};
 use gm_fakes::Call;
 use std::test::Fail;
 

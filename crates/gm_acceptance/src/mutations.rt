@@ -1,5 +1,5 @@
 //! Jobs with changes of their own, alone and beside others.
-use super::{AT_ONE, PATH, RUN, call_over, check_end, depot_of, run_job};
+use crate::calls::{AT_ONE, PATH, RUN, call_over, check_end, depot_of, run_job};
 use gm_fakes::{Call, DriftDepot};
 use std::test::Fail;
 
