@@ -78,8 +78,8 @@ pub(crate) fn run_over(rt: &HostRuntime, words: &str, grid: &[u8]) -> Result<End
 }
 
 /// The same with these bytes as the job text.
-pub(crate) fn run_job(
-    rt: &HostRuntime,
+pub(crate) fn run_job<R: AllocGlobal>(
+    rt: &R,
     words: &str,
     grid: &[u8],
     text: &[u8],
@@ -105,7 +105,44 @@ pub(crate) fn check_end<R: AllocGlobal + Abort, D>(
     assert_eq!(rt; end.err.written(), err, "{case}");
 }
 
+/// Runs the job text over the grid. The call ended so, after this many reads.
+pub(crate) fn check_run<R: AllocGlobal + Abort>(
+    rt: &R,
+    words: &str,
+    grid: &[u8],
+    jobs: &[u8],
+    expected: (u8, &[u8], &[u8]),
+    reads: u64,
+) -> Result<(), Fail> {
+    let end = run_job(rt, words, grid, jobs)?;
+    let case = format!(in rt.alloc(); "{words} {jobs:?}")?;
+    check_end(rt, &end, expected, &case);
+    assert_eq!(rt; end.depot.reads(), reads, "{case}");
+    Ok(())
+}
+
+/// The same where this read fails, over the path in chunks of one edge: some job failed, and the report is this.
+pub(crate) fn check_failing_read<R: AllocGlobal + Abort>(
+    rt: &R,
+    failing: u64,
+    jobs: &[u8],
+    report: &[u8],
+    reads: u64,
+) -> Result<(), Fail> {
+    let mut depot = depot_of(rt, PATH, vec![in rt.alloc(); (Call::Read, failing)]?)?;
+    depot.put("j.txt", jobs)?;
+    let end = call_over(rt, RUN, depot)?;
+    let case = format!(in rt.alloc(); "read {failing} {jobs:?}")?;
+    check_end(rt, &end, (1, report, b""), &case);
+    assert_eq!(rt; end.depot.reads(), reads, "{case}");
+    assert_eq!(rt; end.depot.faults(), 1, "{case}");
+    Ok(())
+}
+
 pub(crate) const RUN: &str = "run a.grid j.txt 1 1";
+
+/// The same with chunks of any number of edges.
+pub(crate) const RUN_LARGE: &str = "run a.grid j.txt 1 65536";
 
 /// As many of the calls as stand here were made, and no other one.
 pub(crate) fn check_calls<R: AllocGlobal + Abort>(

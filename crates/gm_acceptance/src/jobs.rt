@@ -1,6 +1,5 @@
 //! Job texts of several jobs, and job texts that are refused, each in a run over the path's grid.
-use crate::calls::{PATH, REPORT, RUN, call_over, check_end, depot_of, run_job};
-use gm_fakes::Call;
+use crate::calls::{PATH, REPORT, RUN, check_failing_read, check_run, run_job};
 use std::test::Fail;
 
 const TWO_JOBS: &[u8] = b"job a bfs 0\njob b bfs 1\n";
@@ -55,10 +54,7 @@ const RUN_TEXTS: [(&[u8], u8, &[u8], u64); 11] = [
 #[test]
 fn job_texts_are_run(rt: HostRuntime) -> Result<(), Fail> {
     for (text, status, report, reads) in RUN_TEXTS {
-        let end = run_job(&rt, RUN, PATH, text)?;
-        let case = format!(in rt.alloc(); "{text:?}")?;
-        check_end(&rt, &end, (status, report, b""), &case);
-        assert_eq!(rt; end.depot.reads(), reads, "{case}");
+        check_run(&rt, RUN, PATH, text, (status, report, b""), reads)?;
     }
     Ok(())
 }
@@ -79,10 +75,8 @@ const REFUSED_TEXTS: [(&[u8], &str); 9] = [
 #[test]
 fn job_texts_are_refused(rt: HostRuntime) -> Result<(), Fail> {
     for (text, reason) in REFUSED_TEXTS {
-        let end = run_job(&rt, RUN, PATH, text)?;
         let line = format!(in rt.alloc(); "graphm: j.txt: {reason}\n")?;
-        check_end(&rt, &end, (5, b"", line.as_bytes()), reason);
-        assert_eq!(rt; end.depot.reads(), 7, "{reason}");
+        check_run(&rt, RUN, PATH, text, (5, b"", line.as_bytes()), 7)?;
     }
     Ok(())
 }
@@ -98,9 +92,15 @@ fn jobs_text(rt: &HostRuntime, count: u32) -> Result<String, Fail> {
 
 #[test]
 fn the_65th_job_is_refused(rt: HostRuntime) -> Result<(), Fail> {
-    let end = run_job(&rt, RUN, PATH, jobs_text(&rt, 65)?.as_bytes())?;
     let line = b"graphm: j.txt: line 65: too many jobs\n";
-    check_end(&rt, &end, (5, b"", line), "65 jobs");
+    check_run(
+        &rt,
+        RUN,
+        PATH,
+        jobs_text(&rt, 65)?.as_bytes(),
+        (5, b"", line),
+        7,
+    )?;
     let end = run_job(&rt, RUN, PATH, jobs_text(&rt, 64)?.as_bytes())?;
     assert_eq!(rt; end.status, 0);
     assert_eq!(rt; end.depot.reads(), 7);
@@ -135,13 +135,7 @@ const FAILING_FETCHES: [(u64, &[u8], u64); 3] = [
 #[test]
 fn a_failed_job_ends_itself_alone(rt: HostRuntime) -> Result<(), Fail> {
     for (read, report, reads) in FAILING_FETCHES {
-        let mut depot = depot_of(&rt, PATH, vec![in rt.alloc(); (Call::Read, read)]?)?;
-        depot.put("j.txt", TWO_JOBS)?;
-        let end = call_over(&rt, RUN, depot)?;
-        let case = format!(in rt.alloc(); "read {read}")?;
-        check_end(&rt, &end, (1, report, b""), &case);
-        assert_eq!(rt; end.depot.reads(), reads, "{case}");
-        assert_eq!(rt; end.depot.faults(), 1, "{case}");
+        check_failing_read(&rt, read, TWO_JOBS, report, reads)?;
     }
     Ok(())
 }

@@ -1,5 +1,5 @@
 //! Each kind of job over small grids.
-use crate::calls::{PATH, REPORT, RUN, check_end, run_job};
+use crate::calls::{PATH, REPORT, RUN, RUN_LARGE, check_run};
 use std::test::Fail;
 
 const DISTANCES: &[u8] = b"job a version 0 done rounds 4\n0 0\n1 1\n2 2\n3 3\n";
@@ -120,12 +120,8 @@ const JOBS: [(&[u8], &[u8], u8, [u64; 2], &[u8]); 16] = [
 #[test]
 fn each_kind_of_job_gives_its_report(rt: HostRuntime) -> Result<(), Fail> {
     for (grid, job, status, reads, report) in JOBS {
-        for (words, reads) in [RUN, "run a.grid j.txt 1 65536"].into_iter().zip(reads) {
-            let end = run_job(&rt, words, grid, job)?;
-            let case = format!(in rt.alloc(); "{words} {job:?}")?;
-            check_end(&rt, &end, (status, report, b""), &case);
-            assert_eq!(rt; end.depot.reads(), reads, "{case}");
-        }
+        check_run(&rt, RUN, grid, job, (status, report, b""), reads[0])?;
+        check_run(&rt, RUN_LARGE, grid, job, (status, report, b""), reads[1])?;
     }
     Ok(())
 }

@@ -1,6 +1,9 @@
 //! Jobs with changes of their own, alone and beside others.
-use crate::calls::{AT_ONE, PATH, RUN, call_over, check_end, depot_of, run_job};
-use gm_fakes::{Call, DriftDepot};
+use crate::calls::{
+    AT_ONE, PATH, RUN, RUN_LARGE, call_over, check_end, check_failing_read, check_run, depot_of,
+    run_job,
+};
+use gm_fakes::DriftDepot;
 use std::test::Fail;
 
 /// Two vertices, and two equal edges from 0 to 1.
@@ -103,12 +106,8 @@ const MUTATIONS: [(&[u8], &[u8], u8, [u64; 2], &[u8]); 12] = [
 #[test]
 fn jobs_see_their_own_changes(rt: HostRuntime) -> Result<(), Fail> {
     for (grid, text, status, reads, report) in MUTATIONS {
-        for (words, reads) in [RUN, "run a.grid j.txt 1 65536"].into_iter().zip(reads) {
-            let end = run_job(&rt, words, grid, text)?;
-            let case = format!(in rt.alloc(); "{words} {text:?}")?;
-            check_end(&rt, &end, (status, report, b""), &case);
-            assert_eq!(rt; end.depot.reads(), reads, "{case}");
-        }
+        check_run(&rt, RUN, grid, text, (status, report, b""), reads[0])?;
+        check_run(&rt, RUN_LARGE, grid, text, (status, report, b""), reads[1])?;
     }
     Ok(())
 }
@@ -147,12 +146,7 @@ const FAILING_FETCHES: [(u64, &[u8], u64); 2] = [
 #[test]
 fn a_chunk_that_is_changed_is_read(rt: HostRuntime) -> Result<(), Fail> {
     for (read, report, reads) in FAILING_FETCHES {
-        let mut depot = depot_of(&rt, PATH, vec![in rt.alloc(); (Call::Read, read)]?)?;
-        depot.put("j.txt", CUT_BY_THE_SECOND)?;
-        let end = call_over(&rt, RUN, depot)?;
-        let case = format!(in rt.alloc(); "read {read}")?;
-        check_end(&rt, &end, (1, report, b""), &case);
-        assert_eq!(rt; end.depot.reads(), reads, "{case}");
+        check_failing_read(&rt, read, CUT_BY_THE_SECOND, report, reads)?;
     }
     Ok(())
 }

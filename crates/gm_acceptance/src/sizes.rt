@@ -1,5 +1,5 @@
 //! Larger grids and texts.
-use crate::calls::{PATH, REPORT, RUN, call_over, check_end, depot_of, padded, run_job};
+use crate::calls::{PATH, REPORT, RUN, call_over, check_end, check_run, depot_of, padded, run_job};
 use gm_fakes::{Call, MemDepot};
 use std::test::Fail;
 
@@ -50,27 +50,51 @@ fn push_value(
     Ok(())
 }
 
-/// The value of a vertex of the tree. A vertex's out-degree is 6, and the root's is 7: then 141,666,666 and 121,428,571 go over each edge.
-fn value_in_tree(kind: &str, vertex: u32) -> u32 {
-    match (kind, vertex) {
-        ("wcc", _) => 0,
-        ("rank 1", 0) => 271_428_571,
-        ("rank 1", 1 | 2) => 514_285_713,
-        ("rank 1", _) => 574_999_998,
-        _ => vertex.saturating_add(1).ilog2(),
+/// What a job computes.
+#[derive(Clone, Copy)]
+enum Kind {
+    Levels,
+    Distances,
+    Labels,
+    Ranks,
+}
+
+/// The rank of a vertex of the tree after one round. A vertex's out-degree is 6, and the root's is 7: then 141,666,666 and 121,428,571 go
+/// over each edge.
+fn rank_in_tree(vertex: u32) -> u32 {
+    match vertex {
+        0 => 271_428_571,
+        1 | 2 => 514_285_713,
+        _ => 574_999_998,
     }
 }
 
+fn value_in_tree(kind: Kind, vertex: u32) -> u32 {
+    match kind {
+        Kind::Labels => 0,
+        Kind::Ranks => rank_in_tree(vertex),
+        Kind::Levels | Kind::Distances => vertex.saturating_add(1).ilog2(),
+    }
+}
+
+/// A kind of job over the tree, its words, and how many rounds it makes.
+const OVER_TREE: [(Kind, &str, u32); 4] = [
+    (Kind::Levels, "bfs 0", 13),
+    (Kind::Distances, "sssp 0", 13),
+    (Kind::Labels, "wcc", 13),
+    (Kind::Ranks, "rank 1", 1),
+];
+
 #[test]
 fn a_tree_gives_its_levels(rt: HostRuntime) -> Result<(), Fail> {
-    for (kind, rounds) in [("bfs 0", 13), ("sssp 0", 13), ("wcc", 13), ("rank 1", 1)] {
-        let job = format!(in rt.alloc(); "job a {kind}")?;
+    for (kind, words, rounds) in OVER_TREE {
+        let job = format!(in rt.alloc(); "job a {words}")?;
         let end = run_job(&rt, "run a.grid j.txt 1 512", &tree(&rt)?, job.as_bytes())?;
         let mut report = format!(in rt.alloc(); "job a version 0 done rounds {rounds}\n")?;
         for vertex in 0..8_191 {
             push_value(&rt, &mut report, vertex, Some(value_in_tree(kind, vertex)))?;
         }
-        check_end(&rt, &end, (0, report.as_bytes(), b""), kind);
+        check_end(&rt, &end, (0, report.as_bytes(), b""), words);
     }
     Ok(())
 }
@@ -94,27 +118,46 @@ fn lattice_text(rt: &HostRuntime) -> Result<String, Fail> {
     Ok(text)
 }
 
-/// The value of a vertex of the lattices, where 28 vertices have no edge. A share of 425,000,000 goes over each edge at first, and of
-/// 283,333,333 from the last column.
-fn value_in_lattice(kind: &str, vertex: u32) -> Option<u32> {
-    let (row, column) = (vertex / 54, vertex / 3 % 18);
-    match (kind, vertex % 3) {
-        ("wcc", lattice) => Some(if vertex < 972 { lattice } else { vertex }),
-        ("rank 3", _) => Some(match column {
-            _ if vertex >= 972 => 150_000_000,
-            0 => 1_090_322_336,
-            1 => 1_077_267_359,
-            2 => 1_025_588_541,
-            17 => 806_821_759,
-            _ => 1_000_000_000,
-        }),
-        (_, 1 | 2) => None,
-        _ if vertex >= 972 => None,
-        ("bfs 0", _) => Some(row + column),
-        _ if row == 0 || column == 17 => Some(row + column),
-        _ => Some(row + column + 18),
+/// The rank of a vertex of the lattices after three rounds, where 28 vertices have no edge. A share of 425,000,000 goes over each edge at
+/// first, and of 283,333,333 from the last column.
+fn rank_in_lattice(vertex: u32) -> u32 {
+    if vertex >= 972 {
+        return 150_000_000;
+    }
+    match vertex / 3 % 18 {
+        0 => 1_090_322_336,
+        1 => 1_077_267_359,
+        2 => 1_025_588_541,
+        17 => 806_821_759,
+        _ => 1_000_000_000,
     }
 }
+
+/// The value of a vertex of the first lattice, by levels or by distances.
+fn length_in_lattice(kind: Kind, vertex: u32) -> u32 {
+    let (row, column) = (vertex / 54, vertex / 3 % 18);
+    let is_far = matches!(kind, Kind::Distances) && row > 0 && column < 17;
+    row + column + if is_far { 18 } else { 0 }
+}
+
+fn value_in_lattice(kind: Kind, vertex: u32) -> Option<u32> {
+    match kind {
+        Kind::Labels => Some(if vertex < 972 { vertex % 3 } else { vertex }),
+        Kind::Ranks => Some(rank_in_lattice(vertex)),
+        Kind::Levels | Kind::Distances if vertex < 972 && vertex % 3 == 0 => {
+            Some(length_in_lattice(kind, vertex))
+        }
+        Kind::Levels | Kind::Distances => None,
+    }
+}
+
+/// A kind of job over the lattices, its words, how many rounds it makes, and how many reads.
+const OVER_LATTICES: [(Kind, &str, u32, u64); 4] = [
+    (Kind::Levels, "bfs 0", 35, 475),
+    (Kind::Distances, "sssp 0", 52, 850),
+    (Kind::Labels, "wcc", 19, 890),
+    (Kind::Ranks, "rank 3", 3, 268),
+];
 
 /// Three lattices of 18 rows and columns in 25 blocks and 64 chunks. How many reads are made was counted apart from the program.
 #[test]
@@ -124,20 +167,21 @@ fn lattices_give_their_values(rt: HostRuntime) -> Result<(), Fail> {
     let built = call_over(&rt, "build e.txt a.grid 1000 5", depot)?;
     check_end(&rt, &built, (0, b"edges 1998 blocks 25\n", b""), "build");
     let grid = built.depot.file("a.grid").ok_or("there is no grid")?;
-    for (kind, rounds, reads) in [
-        ("bfs 0", 35, 475),
-        ("sssp 0", 52, 850),
-        ("wcc", 19, 890),
-        ("rank 3", 3, 268),
-    ] {
-        let job = format!(in rt.alloc(); "job a {kind}")?;
-        let end = run_job(&rt, "run a.grid j.txt 1 48", grid, job.as_bytes())?;
+    for (kind, words, rounds, reads) in OVER_LATTICES {
+        let job = format!(in rt.alloc(); "job a {words}")?;
         let mut report = format!(in rt.alloc(); "job a version 0 done rounds {rounds}\n")?;
         for vertex in 0..1_000 {
             push_value(&rt, &mut report, vertex, value_in_lattice(kind, vertex))?;
         }
-        check_end(&rt, &end, (0, report.as_bytes(), b""), kind);
-        assert_eq!(rt; end.depot.reads(), reads, "{kind}");
+        let ending = (0, report.as_bytes(), b"".as_slice());
+        check_run(
+            &rt,
+            "run a.grid j.txt 1 48",
+            grid,
+            job.as_bytes(),
+            ending,
+            reads,
+        )?;
     }
     Ok(())
 }
