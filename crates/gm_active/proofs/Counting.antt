@@ -12,7 +12,7 @@ use Rattle.std.proofs.lemmas.List.FromFn.{length-range_with_len}
 use Rattle.std.proofs.lemmas.Nat.{pow-add, mod-pow-add}
 use Rattle.std.proofs.lemmas.Simd.{ones-mask_l}
 use Rattle.gm_active.specs.Bits.{members_of}
-use Rattle.gm_active.specs.Words.{marked, marks_of, AreWords}
+use Rattle.gm_active.specs.Words.{has_mark, marks_of, AreWords}
 use Rattle.gm_active.proofs.Marks.{mark_in_word}
 
 range-split : (a m k : ℕ) → range_with_len a (m + k) ≡ range_with_len a m ++ range_with_len (a + m) k
@@ -69,13 +69,13 @@ ones_of_word w k fits =
 
 -- how many of the numbers below this one are marked
 abbrev pub marked_below : List ℕ → ℕ → ℕ
-marked_below words m = count_by (marked words) (range_with_len 0 m)
+marked_below words m = count_by (has_mark words) (range_with_len 0 m)
 
 next_word : (words : List ℕ) (at k : ℕ) → k ≡ 64 → get_or words at 0 < 2 ^ k → marked_below words (64 * at + k) ≡ marked_below words (64 * at) + count_ones (get_or words at 0)
 next_word words at k wide fits =
-    count-split (marked words) (64 * at) k
+    count-split (has_mark words) (64 * at) k
     ∙ ap (λ (n : ℕ). marked_below words (64 * at) + n)
-    (count-same (marked words) (λ j. eqb (bit_at (get_or words at 0) j) 1) (64 * at) 0 k
+    (count-same (has_mark words) (λ j. eqb (bit_at (get_or words at 0) j) 1) (64 * at) 0 k
     (λ j less. mark_in_word words at (get_or words at 0) (64 * at + j) refl (omega arith) (omega arith)
     ∙ ap (λ (i : ℕ). eqb (bit_at (get_or words at 0) i) 1) (let e : 64 * at + j - 64 * at ≡ 0 + j = omega arith in e))
     ∙ ones_of_word (get_or words at 0) k fits)
@@ -85,20 +85,20 @@ marked_below_next_word words at fits = ap (marked_below words) (let e : 64 * (at
 
 pub marked_below_all : (n m : ℕ) (words : List ℕ) → AreWords n words → n ≤ m → marked_below words m ≡ marked_below words n
 marked_below_all n m words are le =
-    ap (marked_below words) (let e : m ≡ n + (m - n) = omega arith in e) ∙ count-split (marked words) n (m - n)
-    ∙ ap (λ (k : ℕ). marked_below words n + k) (count-none (marked words) n (m - n) are.none_behind) ∙ add-zero (marked_below words n)
+    ap (marked_below words) (let e : m ≡ n + (m - n) = omega arith in e) ∙ count-split (has_mark words) n (m - n)
+    ∙ ap (λ (k : ℕ). marked_below words n + k) (count-none (has_mark words) n (m - n) are.none_behind) ∙ add-zero (marked_below words n)
 
 pub marked_below-le : (n m : ℕ) (words : List ℕ) → AreWords n words → marked_below words m ≤ n
 marked_below-le n m words are =
     elim (cases_lt n m) as (λ _. marked_below words m ≤ n) [
       | inl less ↦
           let all = marked_below_all n m words are (omega arith) in
-          let most = count_by-le-length (marked words) (range_with_len 0 n) in
+          let most = count_by-le-length (has_mark words) (range_with_len 0 n) in
           let long = length-range_with_len 0 n in
           omega arith
-      | inr more ↦ let most = count_by-le-length (marked words) (range_with_len 0 m) in let long = length-range_with_len 0 m in omega arith
+      | inr more ↦ let most = count_by-le-length (has_mark words) (range_with_len 0 m) in let long = length-range_with_len 0 m in omega arith
     ]
 
 pub members_of_marks : (n : ℕ) (words : List ℕ) → members_of (marks_of n words) ≡ marked_below words n
 unfolding marks_of
-members_of_marks n words = sum_by-map (λ (b : Bool). cond b 1 0) (marked words) (range_with_len 0 n)
+members_of_marks n words = sum_by-map (λ (b : Bool). cond b 1 0) (has_mark words) (range_with_len 0 n)

@@ -8,24 +8,24 @@ use Rattle.std.proofs.lemmas.List.{get_or_past, get_or-replicate, length-replica
 use Rattle.std.proofs.lemmas.List.FromFn.{length-map-range_with_len, get_or-map-range_with_len, fill_by_all}
 use Rattle.std.proofs.lemmas.Nat.Bits.{bit_at-zero}
 use Rattle.gm_active.specs.Bits.{is_in}
-use Rattle.gm_active.specs.Words.{marked, marks_of, AreWords}
+use Rattle.gm_active.specs.Words.{has_mark, marks_of, AreWords}
 
 pub length-marks_of : (n : ℕ) (words : List ℕ) → length (marks_of n words) ≡ n
 unfolding marks_of
-length-marks_of n words = length-map-range_with_len (marked words) 0 n
+length-marks_of n words = length-map-range_with_len (has_mark words) 0 n
 
-pub marks_at : (n : ℕ) (words : List ℕ) (k : ℕ) → AreWords n words → is_in (marks_of n words) k ≡ marked words k
+pub marks_at : (n : ℕ) (words : List ℕ) (k : ℕ) → AreWords n words → is_in (marks_of n words) k ≡ has_mark words k
 unfolding marks_of
 marks_at n words k are =
-    elim (cases_lt k n) as (λ _. get_or (map (marked words) (range_with_len 0 n)) k false ≡ marked words k) [
-      | inl less ↦ get_or-map-range_with_len (marked words) 0 n k k false less (omega arith)
-      | inr past ↦ get_or_past (map (marked words) (range_with_len 0 n)) k false (omega (arith, length-map-range_with_len (marked words) 0 n)) ∙ sym (are.none_behind k past)
+    elim (cases_lt k n) as (λ _. get_or (map (has_mark words) (range_with_len 0 n)) k false ≡ has_mark words k) [
+      | inl less ↦ get_or-map-range_with_len (has_mark words) 0 n k k false less (omega arith)
+      | inr past ↦ get_or_past (map (has_mark words) (range_with_len 0 n)) k false (omega (arith, length-map-range_with_len (has_mark words) 0 n)) ∙ sym (are.none_behind k past)
     ]
 
 -- marks are those of the words if each is
-pub marks_by : (n : ℕ) (words : List ℕ) (marks : List Bool) → length marks ≡ n → ((k : ℕ) → k < n → is_in marks k ≡ marked words k) → marks_of n words ≡ marks
+pub marks_by : (n : ℕ) (words : List ℕ) (marks : List Bool) → length marks ≡ n → ((k : ℕ) → k < n → is_in marks k ≡ has_mark words k) → marks_of n words ≡ marks
 unfolding marks_of
-marks_by n words marks long each = sym (fill_by_all (marked words) marks n false long each)
+marks_by n words marks long each = sym (fill_by_all (has_mark words) marks n false long each)
 
 -- empty words
 
@@ -37,8 +37,8 @@ word_of_none m at =
       | inr past ↦ get_or_past (replicate m zero_word) at zero_word (omega (arith, length-replicate m zero_word))
     ]
 
-none_marked : (m k : ℕ) → marked (replicate m 0) k ≡ false
-unfolding marked
+none_marked : (m k : ℕ) → has_mark (replicate m 0) k ≡ false
+unfolding has_mark
 none_marked m k = ap (λ (w : ℕ). eqb (bit_at w (k % 64)) 1) (word_of_none m (k / 64)) ∙ ap (λ (b : ℕ). eqb b 1) (bit_at-zero (k % 64))
 
 pub none_are_words : (n m : ℕ) → n < 2 ^ 32 → n ≤ 64 * m → AreWords n (replicate m 0)
@@ -60,14 +60,14 @@ pub record IsWithBit (words : List ℕ) (v word : ℕ) (b : Bool) : Type 0 where
   pub here : eqb (bit_at word (v % 64)) 1 ≡ b
   pub others : (i : ℕ) → i < 64 → i ≢ v % 64 → bit_at word i ≡ bit_at (get_or words (v / 64) 0) i
 
-marked_here : (words : List ℕ) (v word : ℕ) (b : Bool) → v / 64 < length words → IsWithBit words v word b → marked (set words (v / 64) word) v ≡ b
-unfolding marked
+marked_here : (words : List ℕ) (v word : ℕ) (b : Bool) → v / 64 < length words → IsWithBit words v word b → has_mark (set words (v / 64) word) v ≡ b
+unfolding has_mark
 marked_here words v word b within bit = ap (λ (w : ℕ). eqb (bit_at w (v % 64)) 1) (get_or-set_same words (v / 64) word 0 within) ∙ bit.here
 
-marked_other : (words : List ℕ) (v word k : ℕ) (b : Bool) → v / 64 < length words → IsWithBit words v word b → k ≢ v → marked (set words (v / 64) word) k ≡ marked words k
-unfolding marked
+marked_other : (words : List ℕ) (v word k : ℕ) (b : Bool) → v / 64 < length words → IsWithBit words v word b → k ≢ v → has_mark (set words (v / 64) word) k ≡ has_mark words k
+unfolding has_mark
 marked_other words v word k b within bit other =
-    elim (cases_eq (k / 64) (v / 64)) as (λ _. marked (set words (v / 64) word) k ≡ marked words k) [
+    elim (cases_eq (k / 64) (v / 64)) as (λ _. has_mark (set words (v / 64) word) k ≡ has_mark words k) [
       | inl same ↦
           let apart : k % 64 ≢ v % 64 = λ equal. other (omega arith) in
           let kept : bit_at word (k % 64) ≡ bit_at (get_or words (v / 64) 0) (k % 64) = bit.others (k % 64) (omega arith) apart in
@@ -91,16 +91,16 @@ marks_after_set n v words word b are less bit =
     let within = slot_within n v words are less in
     let long = length-marks_of n words in
     marks_by n (set words (v / 64) word) (set (marks_of n words) v b) (length-set (marks_of n words) v b ∙ long) (λ k below.
-    elim (cases_eq k v) as (λ _. get_or (set (marks_of n words) v b) k false ≡ marked (set words (v / 64) word) k) [
+    elim (cases_eq k v) as (λ _. get_or (set (marks_of n words) v b) k false ≡ has_mark (set words (v / 64) word) k) [
       | inl same ↦
-          subst (λ (at : ℕ). get_or (set (marks_of n words) v b) at false ≡ marked (set words (v / 64) word) at) (sym same)
+          subst (λ (at : ℕ). get_or (set (marks_of n words) v b) at false ≡ has_mark (set words (v / 64) word) at) (sym same)
           (get_or-set_same (marks_of n words) v b false (omega arith) ∙ sym (marked_here words v word b within bit))
       | inr other ↦ get_or-set_other (marks_of n words) v k b false other ∙ marks_at n words k are ∙ sym (marked_other words v word k b within bit other)
     ])
 
 -- the mark of a number in a word that is read
-pub mark_in_word : (words : List ℕ) (at word k : ℕ) → word ≡ get_or words at 0 → 64 * at ≤ k → k < 64 * at + 64 → marked words k ≡ eqb (bit_at word (k - 64 * at)) 1
-unfolding marked
+pub mark_in_word : (words : List ℕ) (at word k : ℕ) → word ≡ get_or words at 0 → 64 * at ≤ k → k < 64 * at + 64 → has_mark words k ≡ eqb (bit_at word (k - 64 * at)) 1
+unfolding has_mark
 mark_in_word words at word k is low high =
     let slot : k / 64 ≡ at = omega arith in
     let place : k % 64 ≡ k - 64 * at = omega arith in

@@ -3,9 +3,9 @@
 ghost use Rattle.std.specs.Prelude.{◌≡◌, ◌&&◌, ◌||◌, ◌*◌, ◌<◌, ◌≤◌, ℕ, length, All};
 ghost use Rattle.std.specs.List.{list_any};
 ghost use Rattle.gm_label.specs.Catalogues.{place_at, sources_at};
-ghost use Rattle.gm_label.specs.Overlays.{added_at, sources_under, AreOverlays};
+ghost use Rattle.gm_label.specs.Overlays.{added_at, AreOverlays};
 ghost use Rattle.gm_active.specs.Bits.{is_in};
-ghost use Rattle.gm_active.specs.Needs.{has_source, is_column_active, needed_chunks, counted_chunks};
+ghost use Rattle.gm_active.specs.Needs.{has_source, is_column_active, needed_chunks_under, counted_chunks_under};
 ghost use Rattle.gm_active.specs.Adding.{AreMarksOver, with_all, between, is_needed_for};
 
 use crate::active::Active;
@@ -55,7 +55,8 @@ fn add_with_active_source(
 )
     requires marks { AreMarksOver cat.now active.now into.old }
     requires end { end ≤ length cat.now.places }
-    ensures { into.new ≡ with_all into.old (between first end (λ c. list_any (is_in active.now) (sources_at cat.now c))) }
+    ensures { into.new
+        ≡ with_all into.old (between first end (λ c. list_any (is_in active.now) (sources_at cat.now c))) }
 {
     for c in first..end {
         if has_active_source(cat.label(c), active) {
@@ -79,7 +80,9 @@ fn add_of_block(
     requires in_block { (c : ℕ) → first ≤ c → c < end → (place_at cat.now c).block ≡ block }
     requires marks { AreMarksOver cat.now active.now into.old }
     requires end { end ≤ length cat.now.places }
-    ensures { into.new ≡ with_all into.old (between first end (λ c. is_needed_for cat.now two_way active.now c (sources_at cat.now c))) }
+    ensures { into.new
+        ≡ with_all into.old
+        (between first end (λ c. is_needed_for cat.now two_way active.now c (sources_at cat.now c))) }
 {
     if is_column_active(cat, active, two_way, block) {
         add_with_source(cat, first, end, into);
@@ -91,7 +94,8 @@ fn add_of_block(
 /// Adds the chunks that are needed for their labels, block by block.
 fn add_by_labels(cat: &Catalogue, active: &Active, two_way: bool, into: &mut ChunkSet)
     requires marks { AreMarksOver cat.now active.now into.old }
-    ensures { into.new ≡ with_all into.old (λ c. is_needed_for cat.now two_way active.now c (sources_at cat.now c)) }
+    ensures { into.new
+        ≡ with_all into.old (λ c. is_needed_for cat.now two_way active.now c (sources_at cat.now c)) }
 {
     let chunks = cat.chunks();
     let mut at = 0;
@@ -153,7 +157,8 @@ fn add_by_overlays(
 )
     requires marks { AreMarksOver cat.now active.now into.old }
     requires overlays { AreOverlays cat.now overlays.now }
-    ensures { into.new ≡ with_all into.old (λ c. is_needed_for cat.now two_way active.now c (added_at overlays.now c)) }
+    ensures { into.new
+        ≡ with_all into.old (λ c. is_needed_for cat.now two_way active.now c (added_at overlays.now c)) }
 {
     let mut known = (0, is_column_active(cat, active, two_way, 0));
     for overlay in overlays {
@@ -182,7 +187,7 @@ fn add_with_added(cat: &Catalogue, overlays: &[Overlay], into: &mut ChunkSet)
 
 /// Makes `into` the chunks that a job needs in a round with these active vertices: those with a source of which one is active, or,
 /// for a two-way kernel, in whose block's column a vertex is active. It takes no memory.
-pub fn owed(
+pub fn find_needed(
     cat: &Catalogue,
     overlays: &Overlays,
     active: &Active,
@@ -192,7 +197,7 @@ pub fn owed(
     requires vertices { length active.now ≡ cat.now.dimensions.n }
     requires chunks { length into.old ≡ length cat.now.places }
     requires overlays { AreOverlays cat.now overlays.now }
-    ensures { into.new ≡ needed_chunks cat.now.dimensions two_way (is_in active.now) (length cat.now.places) (λ c. (place_at cat.now c).block) (sources_under cat.now overlays.now) }
+    ensures { into.new ≡ needed_chunks_under cat.now overlays.now two_way (is_in active.now) }
 {
     into.clear();
     add_by_labels(cat, active, two_way, into);
@@ -200,10 +205,10 @@ pub fn owed(
 }
 
 /// Makes `into` the chunks that a job needs where it counts out-degrees: those with a source. It takes no memory.
-pub fn counted(cat: &Catalogue, overlays: &Overlays, into: &mut ChunkSet)
+pub fn find_counted(cat: &Catalogue, overlays: &Overlays, into: &mut ChunkSet)
     requires chunks { length into.old ≡ length cat.now.places }
     requires overlays { AreOverlays cat.now overlays.now }
-    ensures { into.new ≡ counted_chunks (length cat.now.places) (sources_under cat.now overlays.now) }
+    ensures { into.new ≡ counted_chunks_under cat.now overlays.now }
 {
     into.clear();
     add_with_source(cat, 0, cat.chunks(), into);

@@ -10,8 +10,8 @@ use Rattle.gm_kernel.specs.KernelLaws.{GivesTheSame}
 use Rattle.gm_kernel.specs.Runs.{round_of, values_after}
 
 -- before the first round a vertex that is reached, later one whose value the last round changed from the older one
-abbrev pub is_changed : Bool → ℕ → ℕ → Bool
-is_changed first older old = if first then not (old == TOP) else not (old == older)
+abbrev pub is_active_by_value : Bool → ℕ → ℕ → Bool
+is_active_by_value first older old = if first then not (old == TOP) else not (old == older)
 
 -- a vertex whose edges give more than 0; without edges it gives nothing
 abbrev pub has_share : ℕ → ℕ → Bool
@@ -19,9 +19,9 @@ has_share rank degree = not (share_of rank degree == 0)
 
 -- a job's test of a vertex: whether the round is the first, the value one round earlier (before the first round, any), the value as the round begins, the out-degree
 abbrev pub activity_of : Spec → Bool → ℕ → ℕ → ℕ → Bool
-activity_of (Bfs source bound) first older old degree = is_changed first older old
-activity_of (Sssp source bound) first older old degree = is_changed first older old
-activity_of (Wcc bound) first older old degree = is_changed first older old
+activity_of (Bfs source bound) first older old degree = is_active_by_value first older old
+activity_of (Sssp source bound) first older old degree = is_active_by_value first older old
+activity_of (Wcc bound) first older old degree = is_active_by_value first older old
 activity_of (Rank rounds) first older old degree = has_share old degree
 
 -- what a test of activity says of a vertex in a round

@@ -9,14 +9,14 @@ use Rattle.gm_base.specs.declared.job.Spec.TheVariants.{Bfs, Sssp, Wcc, Rank}
 use Rattle.gm_base.specs.GraphRules.{JoinLaws}
 use Rattle.gm_kernel.specs.declared.kernel.TheConstants.{MAX_RANK}
 use Rattle.gm_kernel.specs.Kernels.{kernel_of, least_kernel, from_source, sum_to_top, share_of}
-use Rattle.gm_kernel.specs.Activity.{activity_of, is_changed, has_share}
+use Rattle.gm_kernel.specs.Activity.{activity_of, is_active_by_value, has_share}
 use Rattle.gm_kernel.specs.KernelLaws.{KernelLaws, StaysWithinTop}
 
 least_inactive : (gift : ℕ → ℕ → ℕ) → ((weight : ℕ) → gift TOP weight ≡ TOP)
     → (first : Bool) (older old weight rest receiver : ℕ)
     → receiver ≤ TOP
     → (first ≡ false → receiver ≡ min rest (gift older weight))
-    → is_changed first older old ≡ false
+    → is_active_by_value first older old ≡ false
     → min receiver (gift old weight) ≡ receiver
 least_inactive gift gives_top true older old weight rest receiver small in_it quiet =
     let is_top : old ≡ TOP = search (rules, tests) in
@@ -30,7 +30,7 @@ least_inactive gift gives_top false older old weight rest receiver small in_it q
 
 -- a kernel that keeps the least value keeps the laws where an unreached vertex gives nothing
 least_laws : (initial : ℕ → ℕ) (gift : ℕ → ℕ → ℕ) (two_way : Bool) → ((weight : ℕ) → gift TOP weight ≡ TOP)
-    → KernelLaws (least_kernel initial gift two_way) (λ first older old degree. is_changed first older old)
+    → KernelLaws (least_kernel initial gift two_way) (λ first older old degree. is_active_by_value first older old)
 least_laws initial gift two_way gives_top = record {
   joins = record { commutes = λ a b. omega arith; associates = λ a b c. omega arith };
   inactive_gives_nothing = λ first older old degree. least_inactive gift gives_top first older old;

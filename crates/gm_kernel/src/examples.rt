@@ -1,7 +1,7 @@
 //! The definitions of rounds, lone runs and activity, computed on graphs and values that were worked out by hand.
 #![tactic(auto, unfolding(crate::specs::Runs::round_of, crate::specs::Runs::values_after, crate::specs::Runs::is_settled_by, crate::specs::Runs::settled_run))]
 
-ghost use Rattle.std.specs.Prelude.{◌≡◌, [], ◌∷◌, true, false};
+ghost use Rattle.std.specs.Prelude.{◌≡◌, ◌-◌, [], ◌∷◌, true, false};
 ghost use Rattle.gm_base.specs.declared.limits.TheConstants.{TOP};
 ghost use Rattle.gm_base.specs.Graph.{edge, out_degree};
 ghost use Rattle.gm_base.specs.Examples.{path_with_shortcut, joined_backwards};
@@ -55,9 +55,9 @@ pub fn rank_run_of_one_vertex()
 /// Before the first round a vertex is active where it is reached, whatever its older value; later where its value changed.
 pub fn active_by_value()
     ensures reached { activity_of (Spec.Bfs 3 9) true 0 0 1 ≡ true }
-    ensures not_reached { activity_of (Spec.Sssp 3 9) true 5 18446744073709551615 1 ≡ false }
+    ensures not_reached { activity_of (Spec.Sssp 3 9) true 5 TOP 1 ≡ false }
     ensures label { activity_of (Spec.Wcc 9) true 2 2 0 ≡ true }
-    ensures changed { activity_of (Spec.Bfs 3 9) false 18446744073709551615 4 1 ≡ true }
+    ensures changed { activity_of (Spec.Bfs 3 9) false TOP 4 1 ≡ true }
     ensures kept { activity_of (Spec.Sssp 3 9) false 4 4 1 ≡ false }
 {}
 
@@ -75,8 +75,10 @@ pub fn active_by_round()
     ensures source_first { active_in_round (Spec.Bfs 0 5) 4 path_with_shortcut (out_degree path_with_shortcut) 0 0 ≡ true }
     ensures others_first { active_in_round (Spec.Bfs 0 5) 4 path_with_shortcut (out_degree path_with_shortcut) 0 2 ≡ false }
     ensures source_later { active_in_round (Spec.Bfs 0 5) 4 path_with_shortcut (out_degree path_with_shortcut) 1 0 ≡ false }
-    ensures reached { active_in_round (Spec.Bfs 0 5) 4 path_with_shortcut (out_degree path_with_shortcut) 1 2 ≡ true }
-    ensures last { active_in_round (Spec.Bfs 0 5) 4 path_with_shortcut (out_degree path_with_shortcut) 2 3 ≡ true }
+    ensures reached { active_in_round (Spec.Bfs 0 5) 4 path_with_shortcut (out_degree path_with_shortcut) 1 2
+        ≡ true }
+    ensures last { active_in_round (Spec.Bfs 0 5) 4 path_with_shortcut (out_degree path_with_shortcut) 2 3
+        ≡ true }
 {}
 
 /// The job of levels is done once a round changes nothing, the job of ranks after its rounds.
@@ -89,27 +91,29 @@ pub fn done_after_rounds()
 
 /// A join of ranks that would pass 2^57 is 2^57. Two vertices with that rank and one edge each give 122,497,909,864,477,491 each.
 pub fn joins_of_ranks_at_the_cap()
-    ensures below { (kernel_of (Spec.Rank 1)).join_values 144115188075855870 1 ≡ 144115188075855871 }
-    ensures met { (kernel_of (Spec.Rank 1)).join_values 144115188075855871 1 ≡ MAX_RANK }
-    ensures passed { (kernel_of (Spec.Rank 1)).join_values 144115188075855871 2 ≡ MAX_RANK }
+    ensures below { (kernel_of (Spec.Rank 1)).join_values (MAX_RANK - 2) 1 ≡ MAX_RANK - 1 }
+    ensures met { (kernel_of (Spec.Rank 1)).join_values (MAX_RANK - 1) 1 ≡ MAX_RANK }
+    ensures passed { (kernel_of (Spec.Rank 1)).join_values (MAX_RANK - 1) 2 ≡ MAX_RANK }
     ensures share { share_of MAX_RANK 1 ≡ 122497909864477491 }
-    ensures two_shares { value_after_round (kernel_of (Spec.Rank 1)) (edge 0 2 1 ∷ edge 1 2 1 ∷ []) (MAX_RANK ∷ MAX_RANK ∷ 0 ∷ []) 2 ≡ MAX_RANK }
+    ensures two_shares { value_after_round (kernel_of (Spec.Rank 1)) (edge 0 2 1 ∷ edge 1 2 1 ∷ []) (MAX_RANK ∷ MAX_RANK ∷ 0 ∷ []) 2
+        ≡ MAX_RANK }
 {}
 
 /// A level that would be 2^64 - 1 or more is `TOP`, and one less is the greatest that there is.
 pub fn levels_next_to_top()
-    ensures greatest { (kernel_of (Spec.Bfs 0 9)).gift_along 18446744073709551613 1 7 ≡ 18446744073709551614 }
-    ensures met { (kernel_of (Spec.Bfs 0 9)).gift_along 18446744073709551614 1 7 ≡ TOP }
+    ensures greatest { (kernel_of (Spec.Bfs 0 9)).gift_along (TOP - 2) 1 7 ≡ TOP - 1 }
+    ensures met { (kernel_of (Spec.Bfs 0 9)).gift_along (TOP - 1) 1 7 ≡ TOP }
     ensures not_reached { (kernel_of (Spec.Bfs 0 9)).gift_along TOP 1 7 ≡ TOP }
 {}
 
 /// A distance that would be 2^64 - 1 or more is `TOP`: the vertex counts as not reached.
 pub fn distances_next_to_top()
-    ensures greatest { (kernel_of (Spec.Sssp 0 9)).gift_along 18446744073709551610 1 4 ≡ 18446744073709551614 }
-    ensures met { (kernel_of (Spec.Sssp 0 9)).gift_along 18446744073709551610 1 5 ≡ TOP }
-    ensures passed { (kernel_of (Spec.Sssp 0 9)).gift_along 18446744073709551610 1 4294967295 ≡ TOP }
-    ensures without_weight { (kernel_of (Spec.Sssp 0 9)).gift_along 18446744073709551610 1 0 ≡ 18446744073709551610 }
-    ensures reached { value_after_round (kernel_of (Spec.Sssp 0 9)) (edge 0 1 4 ∷ []) (18446744073709551610 ∷ TOP ∷ []) 1
-        ≡ 18446744073709551614 }
-    ensures left_unreached { value_after_round (kernel_of (Spec.Sssp 0 9)) (edge 0 1 5 ∷ []) (18446744073709551610 ∷ TOP ∷ []) 1 ≡ TOP }
+    ensures greatest { (kernel_of (Spec.Sssp 0 9)).gift_along (TOP - 5) 1 4 ≡ TOP - 1 }
+    ensures met { (kernel_of (Spec.Sssp 0 9)).gift_along (TOP - 5) 1 5 ≡ TOP }
+    ensures passed { (kernel_of (Spec.Sssp 0 9)).gift_along (TOP - 5) 1 u32.MAX ≡ TOP }
+    ensures without_weight { (kernel_of (Spec.Sssp 0 9)).gift_along (TOP - 5) 1 0 ≡ TOP - 5 }
+    ensures reached { value_after_round (kernel_of (Spec.Sssp 0 9)) (edge 0 1 4 ∷ []) ((TOP - 5) ∷ TOP ∷ []) 1
+        ≡ TOP - 1 }
+    ensures left_unreached { value_after_round (kernel_of (Spec.Sssp 0 9)) (edge 0 1 5 ∷ []) ((TOP - 5) ∷ TOP ∷ []) 1
+        ≡ TOP }
 {}

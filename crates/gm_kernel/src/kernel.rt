@@ -3,7 +3,7 @@
 ghost use Rattle.std.specs.Prelude.{◌≡◌};
 ghost use Rattle.gm_base.specs.declared.job.Spec.{Spec as Job};
 ghost use Rattle.gm_kernel.specs.Kernels.{Kernel as Functions, kernel_of};
-ghost use Rattle.gm_kernel.specs.Activity.{activity_of, is_changed};
+ghost use Rattle.gm_kernel.specs.Activity.{activity_of, is_active_by_value};
 
 use gm_base::TOP;
 
@@ -49,8 +49,8 @@ pub trait Kernel {
 
 /// Whether a vertex is active by its value: in the first round where it is reached, later where the last round changed its value.
 #[inline(always)]
-pub fn changed(first: bool, older: u64, old: u64) -> bool
-    ensures { result ≡ is_changed first older old }
+pub fn is_active_by_value(first: bool, older: u64, old: u64) -> bool
+    ensures { result ≡ is_active_by_value first older old }
 {
     if first { old != TOP } else { old != older }
 }

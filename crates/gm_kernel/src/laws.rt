@@ -26,7 +26,8 @@ pub fn pass_in_parts()
     ensures two { (kernel : Functions) (degree_of : ℕ → ℕ) (values : List ℕ) (xs ys : List Edge) (v sum : ℕ)
         → joined_at kernel degree_of values (xs ++ ys) v sum
         ≡ joined_at kernel degree_of values ys v (joined_at kernel degree_of values xs v sum) }
-    ensures many { (kernel : Functions) (degree_of : ℕ → ℕ) (values : List ℕ) (content : ℕ → List Edge) (parts : List ℕ) (v sum : ℕ)
+    ensures many { (kernel : Functions) (degree_of : ℕ → ℕ) (values : List ℕ) (content : ℕ
+        → List Edge) (parts : List ℕ) (v sum : ℕ)
         → joined_at kernel degree_of values (flat_map content parts) v sum
         ≡ fold (λ so_far part. joined_at kernel degree_of values (content part) v so_far) sum parts }
 {}
@@ -34,11 +35,13 @@ pub fn pass_in_parts()
 /// A law: passes over two lists that are the same graph give the same sums, of two passes either may come first, and parts that are
 /// joined in another order are the same graph.
 pub fn pass_in_any_order()
-    ensures same_graph { (kernel : Functions) (degree_of : ℕ → ℕ) (values : List ℕ) (xs ys : List Edge) (v sum : ℕ)
+    ensures same_graph { (kernel : Functions) (degree_of : ℕ
+        → ℕ) (values : List ℕ) (xs ys : List Edge) (v sum : ℕ)
         → JoinLaws kernel.join_values
         → IsSameGraph xs ys
         → joined_at kernel degree_of values xs v sum ≡ joined_at kernel degree_of values ys v sum }
-    ensures two_passes { (kernel : Functions) (degree_of : ℕ → ℕ) (values : List ℕ) (xs ys : List Edge) (v sum : ℕ)
+    ensures two_passes { (kernel : Functions) (degree_of : ℕ
+        → ℕ) (values : List ℕ) (xs ys : List Edge) (v sum : ℕ)
         → JoinLaws kernel.join_values
         → joined_at kernel degree_of values ys v (joined_at kernel degree_of values xs v sum)
         ≡ joined_at kernel degree_of values xs v (joined_at kernel degree_of values ys v sum) }
@@ -49,10 +52,12 @@ pub fn pass_in_any_order()
 
 /// A law: out-degrees count only in what vertices give, and a job that settles doesn't look at them.
 pub fn degrees_count_in_gifts()
-    ensures pass { (kernel : Functions) (these those : ℕ → ℕ) (values : List ℕ) (edges : List Edge) (v sum : ℕ)
+    ensures pass { (kernel : Functions) (these those : ℕ
+        → ℕ) (values : List ℕ) (edges : List Edge) (v sum : ℕ)
         → GivesTheSame kernel these those
         → joined_at kernel these values edges v sum ≡ joined_at kernel those values edges v sum }
-    ensures settling { (spec : Spec) (these those : ℕ → ℕ) → Settles spec → GivesTheSame (kernel_of spec) these those }
+    ensures settling { (spec : Spec) (these those : ℕ → ℕ) → Settles spec
+        → GivesTheSame (kernel_of spec) these those }
 {}
 
 /// A law: sums that began as what each vertex carries, and into which all edges were passed, are the values after the round.
@@ -68,14 +73,16 @@ pub fn sums_are_the_round()
 /// A law: a round may leave out edges over which no active vertex gives. The edges that are kept give each vertex its value after the
 /// round over all of them, in any round of any job.
 pub fn quiet_edges_may_be_skipped()
-    ensures value { (kernel : Functions) (is_active : Bool → ℕ → ℕ → ℕ → Bool) (degree_of : ℕ → ℕ) (first : Bool)
+    ensures value { (kernel : Functions) (is_active : Bool → ℕ → ℕ → ℕ → Bool) (degree_of : ℕ
+        → ℕ) (first : Bool)
         (older values : List ℕ) (edges past kept skipped : List Edge) (v : ℕ)
         → KernelLaws kernel is_active
         → SkipsQuietEdges kernel is_active degree_of first older values edges past kept skipped
         → v < length values
         → value_after_round kernel edges values v
         ≡ joined_at kernel degree_of values kept v (kernel.carried_value (slice_index values v)) }
-    ensures round { (kernel : Functions) (is_active : Bool → ℕ → ℕ → ℕ → Bool) (degree_of : ℕ → ℕ) (first : Bool)
+    ensures round { (kernel : Functions) (is_active : Bool → ℕ → ℕ → ℕ → Bool) (degree_of : ℕ
+        → ℕ) (first : Bool)
         (older values sums : List ℕ) (edges past kept skipped : List Edge)
         → KernelLaws kernel is_active
         → SkipsQuietEdges kernel is_active degree_of first older values edges past kept skipped
@@ -83,7 +90,8 @@ pub fn quiet_edges_may_be_skipped()
         → ((v : ℕ) → v < length values → slice_index sums v
         ≡ joined_at kernel degree_of values kept v (kernel.carried_value (slice_index values v)))
         → sums ≡ round_of kernel edges values }
-    ensures job { (spec : Spec) (n round : ℕ) (degree_of : ℕ → ℕ) (sums : List ℕ) (edges kept skipped : List Edge)
+    ensures job { (spec : Spec) (n round : ℕ) (degree_of : ℕ
+        → ℕ) (sums : List ℕ) (edges kept skipped : List Edge)
         → n ≤ TOP
         → GivesTheSame (kernel_of spec) degree_of (out_degree edges)
         → IsSameGraph edges (kept ++ skipped)
@@ -97,8 +105,10 @@ pub fn quiet_edges_may_be_skipped()
 
 /// A law: there are as many values after a round as before it, and one for each vertex after any number of rounds.
 pub fn rounds_keep_the_length()
-    ensures round { (kernel : Functions) (edges : List Edge) (values : List ℕ) → length (round_of kernel edges values) ≡ length values }
-    ensures rounds { (kernel : Functions) (n : ℕ) (edges : List Edge) (rounds : ℕ) → length (values_after kernel n edges rounds) ≡ n }
+    ensures round { (kernel : Functions) (edges : List Edge) (values : List ℕ)
+        → length (round_of kernel edges values) ≡ length values }
+    ensures rounds { (kernel : Functions) (n : ℕ) (edges : List Edge) (rounds : ℕ)
+        → length (values_after kernel n edges rounds) ≡ n }
 {}
 
 /// A law: no value is above `TOP` after any number of rounds.
@@ -112,10 +122,13 @@ pub fn rounds_stay_within_top()
 /// A law: the same graph has the same round, the same values after any number of rounds, and the same lone run of every job.
 pub fn same_graph_same_run()
     ensures round { (kernel : Functions) (xs ys : List Edge) (values : List ℕ)
-        → JoinLaws kernel.join_values → IsSameGraph xs ys → round_of kernel xs values ≡ round_of kernel ys values }
+        → JoinLaws kernel.join_values → IsSameGraph xs ys
+        → round_of kernel xs values ≡ round_of kernel ys values }
     ensures rounds { (kernel : Functions) (n : ℕ) (xs ys : List Edge) (rounds : ℕ)
-        → JoinLaws kernel.join_values → IsSameGraph xs ys → values_after kernel n xs rounds ≡ values_after kernel n ys rounds }
-    ensures run { (spec : Spec) (n : ℕ) (xs ys : List Edge) → IsSameGraph xs ys → lone_run spec n xs ≡ lone_run spec n ys }
+        → JoinLaws kernel.join_values → IsSameGraph xs ys
+        → values_after kernel n xs rounds ≡ values_after kernel n ys rounds }
+    ensures run { (spec : Spec) (n : ℕ) (xs ys : List Edge) → IsSameGraph xs ys
+        → lone_run spec n xs ≡ lone_run spec n ys }
 {}
 
 /// A law: a run that goes on until a round changes nothing ends with the first such round, or at its bound where there is none.
@@ -148,9 +161,11 @@ pub fn lone_run_ends()
 /// fails for want of rounds only where its bound is below n.
 pub fn jobs_settle_by_round_n()
     ensures settled { (spec : Spec) (n : ℕ) (edges : List Edge) (round : ℕ)
-        → Settles spec → IsGraph n edges → 1 ≤ round → n ≤ round → is_settled_by (kernel_of spec) n edges round ≡ true }
+        → Settles spec → IsGraph n edges → 1 ≤ round → n ≤ round
+        → is_settled_by (kernel_of spec) n edges round ≡ true }
     ensures done { (spec : Spec) (n : ℕ) (edges : List Edge) (rounds : ℕ) (values : List ℕ)
-        → Settles spec → IsGraph n edges → 1 ≤ n → lone_run spec n edges ≡ Outcome.Done rounds values → rounds ≤ n }
+        → Settles spec → IsGraph n edges → 1 ≤ n → lone_run spec n edges ≡ Outcome.Done rounds values
+        → rounds ≤ n }
     ensures bound { (spec : Spec) (n : ℕ) (edges : List Edge) (rounds : ℕ)
         → IsGraph n edges → 1 ≤ n
         → lone_run spec n edges ≡ Outcome.Rounds rounds

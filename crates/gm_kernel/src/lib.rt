@@ -7,5 +7,5 @@ mod kernel;
 pub mod laws;
 mod pass;
 
-pub use kernel::{Kernel, MAX_RANK, changed};
+pub use kernel::{Kernel, MAX_RANK, is_active_by_value};
 pub use pass::pass_edges;

@@ -32,8 +32,9 @@ fn give_along<K: Kernel>(
     requires receiver { receiver < length values.now }
     requires degrees { length degrees.now ≡ length values.now }
     requires sums { length sums.old ≡ length values.now }
-    ensures { let gift = gift_from (K.functions kernel.now) (λ u. slice_index degrees.now u) values.now giver weight in
-        sums.new ≡ slice_set sums.old receiver ((K.functions kernel.now).join_values (slice_index sums.old receiver) gift) }
+    ensures { let functions = K.functions kernel.now in
+        let gift = gift_from functions (λ u. slice_index degrees.now u) values.now giver weight in
+        sums.new ≡ slice_set sums.old receiver (functions.join_values (slice_index sums.old receiver) gift) }
 {
     let gift = kernel.give(values[giver as usize], degrees[giver as usize], weight);
     if may_change_a_sum(kernel, gift) {
@@ -55,7 +56,8 @@ pub fn pass_edges<K: Kernel>(
     requires degrees { length degrees.now ≡ length values.now }
     requires sums { length sums.old ≡ length values.now }
     ensures joined { (v : ℕ) → slice_index sums.new v
-        ≡ joined_at (K.functions kernel.now) (λ u. slice_index degrees.now u) values.now edges.now v (slice_index sums.old v) }
+        ≡ joined_at (K.functions kernel.now) (λ u. slice_index degrees.now u) values.now edges.now v
+        (slice_index sums.old v) }
     ensures length { length sums.new ≡ length sums.old }
 {
     for e in edges {

@@ -1,7 +1,7 @@
 //! Paths from a source.
 
 use gm_base::TOP;
-use gm_kernel::{Kernel, changed};
+use gm_kernel::{Kernel, is_active_by_value};
 
 /// Levels from a source: 0 there, and over each edge one more.
 pub type Bfs = Paths<false>;
@@ -44,7 +44,7 @@ impl<const WEIGHTED: bool> Kernel for Paths<WEIGHTED> {
     }
 
     fn active(&self, first: bool, older: u64, old: u64, _degree: u32) -> bool {
-        changed(first, older, old)
+        is_active_by_value(first, older, old)
     }
 
     fn two_way(&self) -> bool {

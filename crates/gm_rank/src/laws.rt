@@ -7,6 +7,7 @@ ghost use Rattle.gm_base.specs.Graph.{IsGraph, out_degree};
 ghost use Rattle.gm_kernel.specs.Kernels.{kernel_of};
 ghost use Rattle.gm_kernel.specs.Runs.{gifts_to, value_after_round, values_after};
 
+use crate::MAX_DEGREE;
 use gm_base::Spec;
 
 /// A law: after every round the ranks of n vertices add up to at most n times the rank of 1,000,000,000 that each begins with.
@@ -28,7 +29,8 @@ pub fn ranks_are_plain_sums()
         value_after_round kernel edges values v ≡ 150000000 + sum (gifts_to kernel (out_degree edges) values edges v) }
 {}
 
-/// A law: no out-degree of a version of a graph, which has at most so many edges, reaches `u32::MAX`, where counts stop.
+/// A law: no out-degree of a version of a graph, which has at most so many edges, reaches `MAX_DEGREE`, where counts stop.
 pub fn degrees_are_counted()
-    ensures { (edges : List Edge) (v : ℕ) → length edges ≤ MAX_EDGES + MAX_CHANGES → out_degree edges v < u32.MAX }
+    ensures { (edges : List Edge) (v : ℕ) → length edges ≤ MAX_EDGES + MAX_CHANGES
+        → out_degree edges v < MAX_DEGREE }
 {}

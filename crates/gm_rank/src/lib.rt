@@ -8,4 +8,4 @@ mod passes;
 mod tests;
 
 pub use fixed_point::Rank;
-pub use passes::{count_pass, pass_shares, take_shares};
+pub use passes::{MAX_DEGREE, count_pass, pass_shares, take_shares};

@@ -10,10 +10,14 @@ ghost use Rattle.gm_rank.specs.Ranks.{rank_job, AreShares};
 use crate::fixed_point::{join, share};
 use gm_base::Edge;
 
-/// Adds one to the source's degree for each edge. A degree stops at `u32::MAX`, which none of a version of a graph reaches.
+/// Counts of out-degrees stop here. None of a version of a graph reaches it.
+pub const MAX_DEGREE: u32 = u32::MAX;
+
+/// Adds one to the source's degree for each edge. A degree stops at `MAX_DEGREE`.
 pub fn count_pass(edges: &[Edge], degrees: &mut [u32])
     requires { All (λ e. e.from < length degrees.old) edges.now }
-    ensures counted { (v : ℕ) → slice_index degrees.new v ≡ min (slice_index degrees.old v + out_degree edges.now v) u32.MAX }
+    ensures counted { (v : ℕ)
+        → slice_index degrees.new v ≡ min (slice_index degrees.old v + out_degree edges.now v) MAX_DEGREE }
     ensures length { length degrees.new ≡ length degrees.old }
 {
     for e in edges {
@@ -41,7 +45,10 @@ pub fn pass_shares(edges: &[Edge], shares: &[u64], sums: &mut [u64])
     requires sums { length sums.old ≡ length shares.now }
     ensures joined { (degree_of : ℕ → ℕ) (values : List ℕ)
         → AreShares degree_of values shares.now
-        → (v : ℕ) → slice_index sums.new v ≡ joined_at (kernel_of rank_job) degree_of values edges.now v (slice_index sums.old v) }
+        → (v : ℕ)
+        → slice_index sums.new v
+        ≡ joined_at (kernel_of rank_job) degree_of values edges.now v
+        (slice_index sums.old v) }
     ensures length { length sums.new ≡ length sums.old }
 {
     for e in edges {

@@ -1,6 +1,6 @@
 //! Component labels.
 
-use gm_kernel::{Kernel, changed};
+use gm_kernel::{Kernel, is_active_by_value};
 
 /// The least label that reaches a vertex: each begins with its own, and an edge gives its ends' labels to each other.
 #[derive(Clone, Copy)]
@@ -35,7 +35,7 @@ impl Kernel for Least {
     }
 
     fn active(&self, first: bool, older: u64, old: u64, _degree: u32) -> bool {
-        changed(first, older, old)
+        is_active_by_value(first, older, old)
     }
 
     fn two_way(&self) -> bool {

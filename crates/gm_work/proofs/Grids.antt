@@ -15,7 +15,7 @@ use Rattle.gm_label.specs.Catalogues.{Catalogue, place_at, sources_at, base_at, 
 use Rattle.gm_active.specs.Needs.{first_destination_of, end_destination_of}
 use Rattle.gm_work.specs.Views.{IsCutIntoChunks}
 use Rattle.gm_work.specs.ViewsRules.{blocks-in_columns}
-use Rattle.gm_work.specs.Held.{grid_view}
+use Rattle.gm_work.specs.HeldJobs.{grid_view}
 
 listed : (u : ℕ) (sources : List ℕ) → list_any (λ s. eqb s u) sources ≡ true → list_any (λ s. eqb s u) (sources ++ []) ≡ true
 listed u sources h = ap (list_any (λ s. eqb s u)) (append-nil sources) ∙ h

@@ -8,7 +8,7 @@ use Rattle.std.proofs.lemmas.List.Sums.{sum_by-append}
 use Rattle.gm_base.specs.declared.edge.Edge.{Edge}
 use Rattle.gm_base.specs.Graph.{is_same_edge, IsSameGraph}
 use Rattle.gm_active.specs.Bits.{is_in}
-use Rattle.gm_work.specs.Entries.{owes_any}
+use Rattle.gm_work.specs.JobStates.{owes_any}
 use Rattle.gm_work.specs.Views.{owed_after, WerePassed}
 
 pub by_test : (b : Bool) (P : Bool → Type 0) → (b ≡ true → P true) → (b ≡ false → P false) → P b

@@ -20,7 +20,7 @@ use Rattle.gm_kernel.specs.ActivityRules.{next_values_skipping_quiet}
 use Rattle.gm_active.specs.Bits.{is_in, any_between}
 use Rattle.gm_active.specs.Needs.{has_source, is_needed, first_destination_of, end_destination_of}
 use Rattle.gm_work.specs.declared.phase.Phase.TheVariants.{Round}
-use Rattle.gm_work.specs.Entries.{kernel_in, counts_degrees, owes_any}
+use Rattle.gm_work.specs.JobStates.{kernel_in, counts_degrees, owes_any}
 use Rattle.gm_work.specs.Views.{JobView, IsCutIntoChunks, values_at, degrees_of, needed_in, owed_after, sums_after, WerePassed}
 use Rattle.gm_work.proofs.Lists.{by_test, second, has_passed, AreChunks, passed_once, is_owed, none_owed, and-true, left_over, kept, kept_and_left}
 
@@ -90,28 +90,28 @@ gives_in (Sssp source bound) n edges graph u x weight = refl
 gives_in (Wcc bound) n edges graph u x weight = refl
 gives_in (Rank rounds) n edges graph u x weight = ap (λ degree. (kernel_of (Rank rounds)).gift_along x degree weight) (degree_is n edges u graph)
 
-pub gives_the_same : (d : JobView) → IsCutIntoChunks d → GivesTheSame (kernel_in d.known) (slice_index (degrees_of d)) (out_degree d.edges)
-gives_the_same d cut = gives_in d.known.spec d.known.dimensions.n d.edges cut.graph
+pub gives_the_same : (d : JobView) → IsCutIntoChunks d → GivesTheSame (kernel_in d.context) (slice_index (degrees_of d)) (out_degree d.edges)
+gives_the_same d cut = gives_in d.context.spec d.context.dimensions.n d.edges cut.graph
 
 -- ---- sums of the passed chunks
 
-pub sum_is : (d : JobView) (values : List ℕ) (passed : List ℕ) (v : ℕ) → v < d.known.dimensions.n
+pub sum_is : (d : JobView) (values : List ℕ) (passed : List ℕ) (v : ℕ) → v < d.context.dimensions.n
     → slice_index (sums_after d values passed) v
-    ≡ joined_at (kernel_in d.known) (slice_index (degrees_of d)) values (kept d.content_at passed) v ((kernel_in d.known).carried_value (slice_index values v))
+    ≡ joined_at (kernel_in d.context) (slice_index (degrees_of d)) values (kept d.content_at passed) v ((kernel_in d.context).carried_value (slice_index values v))
 sum_is d values [] v h =
-    get_or-map-range_with_len (λ u. (kernel_in d.known).carried_value (slice_index values u)) 0 d.known.dimensions.n v v 0 h (omega arith)
+    get_or-map-range_with_len (λ u. (kernel_in d.context).carried_value (slice_index values u)) 0 d.context.dimensions.n v v 0 h (omega arith)
 sum_is d values (c ∷ passed) v h =
-    let k = kernel_in d.known in
+    let k = kernel_in d.context in
     let degree_of = slice_index (degrees_of d) in
     let start = k.carried_value (slice_index values v) in
-    get_or-map-range_with_len (λ u. joined_at k degree_of values (d.content_at c) u (slice_index (sums_after d values passed) u)) 0 d.known.dimensions.n v v 0 h (omega arith)
+    get_or-map-range_with_len (λ u. joined_at k degree_of values (d.content_at c) u (slice_index (sums_after d values passed) u)) 0 d.context.dimensions.n v v 0 h (omega arith)
     ∙ ap (joined_at k degree_of values (d.content_at c) v) (sum_is d values passed v h)
     ∙ sym (joined_at-append k degree_of values (kept d.content_at passed) (d.content_at c) v start)
 
-pub length-sums : (d : JobView) (values : List ℕ) (passed : List ℕ) → length (sums_after d values passed) ≡ d.known.dimensions.n
-length-sums d values [] = length-map-range_with_len (λ u. (kernel_in d.known).carried_value (slice_index values u)) 0 d.known.dimensions.n
+pub length-sums : (d : JobView) (values : List ℕ) (passed : List ℕ) → length (sums_after d values passed) ≡ d.context.dimensions.n
+length-sums d values [] = length-map-range_with_len (λ u. (kernel_in d.context).carried_value (slice_index values u)) 0 d.context.dimensions.n
 length-sums d values (c ∷ passed) =
-    length-map-range_with_len (λ u. joined_at (kernel_in d.known) (slice_index (degrees_of d)) values (d.content_at c) u (slice_index (sums_after d values passed) u)) 0 d.known.dimensions.n
+    length-map-range_with_len (λ u. joined_at (kernel_in d.context) (slice_index (degrees_of d)) values (d.content_at c) u (slice_index (sums_after d values passed) u)) 0 d.context.dimensions.n
 
 -- ---- chunks that weren't passed
 
@@ -121,16 +121,16 @@ some_source (x ∷ us) u h = refl
 
 -- a chunk that isn't needed has no edge over which an active vertex gives
 quiet_edges : (d : JobView) (active : ℕ → Bool) (c : ℕ) (es : List Edge)
-    → is_needed d.known.dimensions (kernel_in d.known).is_two_way active (d.known.block_at c) (d.known.sources_at c) ≡ false
-    → AllByRecursion (λ e. list_any (λ s. eqb s e.from) (d.known.sources_at c) ≡ true) es
-    → AllByRecursion (λ e. (first_destination_of d.known.dimensions (d.known.block_at c) ≤ e.to) × (e.to < end_destination_of d.known.dimensions (d.known.block_at c))) es
-    → AllByRecursion (IsQuiet (kernel_in d.known) active) es
+    → is_needed d.context.dimensions (kernel_in d.context).is_two_way active (d.context.block_at c) (d.context.sources_at c) ≡ false
+    → AllByRecursion (λ e. list_any (λ s. eqb s e.from) (d.context.sources_at c) ≡ true) es
+    → AllByRecursion (λ e. (first_destination_of d.context.dimensions (d.context.block_at c) ≤ e.to) × (e.to < end_destination_of d.context.dimensions (d.context.block_at c))) es
+    → AllByRecursion (IsQuiet (kernel_in d.context) active) es
 quiet_edges d active c [] none s t = tt
 quiet_edges d active c (e ∷ es) none s t =
-    let k = kernel_in d.known in
-    let first = first_destination_of d.known.dimensions (d.known.block_at c) in
-    let last = end_destination_of d.known.dimensions (d.known.block_at c) in
-    let sources = d.known.sources_at c in
+    let k = kernel_in d.context in
+    let first = first_destination_of d.context.dimensions (d.context.block_at c) in
+    let last = end_destination_of d.context.dimensions (d.context.block_at c) in
+    let sources = d.context.sources_at c in
     let rest : (list_any active sources || (k.is_two_way && any_between active first last)) ≡ false = second (has_source sources) _ none (some_source sources e.from s.0) in
     let parts = or_parts (list_any active sources) (k.is_two_way && any_between active first last) rest in
     let low = t.0.0 in
@@ -153,27 +153,27 @@ left_has Q needed passed a (suc count) none each =
     (λ _ owes. (each a (omega arith) (omega arith) (sym (and-true (is_in needed a)) ∙ owes), rest))
     (sym (is_owed needed passed a) ∙ none_owed (owed_after needed passed) a none)
 
-pub whole : (d : JobView) → IsCutIntoChunks d → (passed : List ℕ) → AreChunks d.known.chunks passed
-    → IsSameGraph d.edges (kept d.content_at passed ++ flat_map d.content_at (left_over passed 0 d.known.chunks))
+pub whole : (d : JobView) → IsCutIntoChunks d → (passed : List ℕ) → AreChunks d.context.chunks passed
+    → IsSameGraph d.edges (kept d.content_at passed ++ flat_map d.content_at (left_over passed 0 d.context.chunks))
 whole d cut passed once =
-    same_graph-transitive d.edges (flat_map d.content_at (range_with_len 0 d.known.chunks)) (kept d.content_at passed ++ flat_map d.content_at (left_over passed 0 d.known.chunks)) cut.whole (kept_and_left d.content_at d.known.chunks passed once)
+    same_graph-transitive d.edges (flat_map d.content_at (range_with_len 0 d.context.chunks)) (kept d.content_at passed ++ flat_map d.content_at (left_over passed 0 d.context.chunks)) cut.whole (kept_and_left d.content_at d.context.chunks passed once)
 
 -- a round over the needed chunks alone is the round over all edges
 pub closes : (d : JobView) → IsCutIntoChunks d → (r : ℕ) (passed : List ℕ) → WerePassed (needed_in d (Round r)) passed
     → owes_any (owed_after (needed_in d (Round r)) passed) ≡ false → sums_after d (values_at d r) passed ≡ values_at d (r + 1)
 closes d cut r passed were none =
-    let n = d.known.dimensions.n in
-    let chunks = d.known.chunks in
-    let k = kernel_in d.known in
-    let active = active_in_round d.known.spec n d.edges (slice_index (degrees_of d)) r in
-    let test : ℕ → Bool = λ c. is_needed d.known.dimensions k.is_two_way active (d.known.block_at c) (d.known.sources_at c) in
+    let n = d.context.dimensions.n in
+    let chunks = d.context.chunks in
+    let k = kernel_in d.context in
+    let active = active_in_round d.context.spec n d.edges (slice_index (degrees_of d)) r in
+    let test : ℕ → Bool = λ c. is_needed d.context.dimensions k.is_two_way active (d.context.block_at c) (d.context.sources_at c) in
     let long : length (needed_in d (Round r)) ≡ chunks = length-map-range_with_len test 0 chunks in
     let once = subst (λ (m : ℕ). AreChunks m passed) long (passed_once (needed_in d (Round r)) passed were) in
     let quiet = left_has (λ c. AllByRecursion (IsQuiet k active) (d.content_at c)) (needed_in d (Round r)) passed 0 chunks none
     (λ c low high off. quiet_edges d active c (d.content_at c) (sym (get_or-map-range_with_len test 0 chunks c c false (omega (arith, high)) (omega arith)) ∙ off)
     (recursion_from_All _ (d.content_at c) (cut.sources c)) (recursion_from_All _ (d.content_at c) (cut.columns c))) in
     let few = cut.dimensions.vertices in
-    next_values_skipping_quiet d.known.spec n r (slice_index (degrees_of d)) (sums_after d (values_at d r) passed) d.edges
+    next_values_skipping_quiet d.context.spec n r (slice_index (degrees_of d)) (sums_after d (values_at d r) passed) d.edges
     (kept d.content_at passed) (flat_map d.content_at (left_over passed 0 chunks))
     (omega (arith, few)) (gives_the_same d cut) (whole d cut passed once)
     (All-from_recursion (IsQuiet k active) _ (all_flat (IsQuiet k active) d.content_at (left_over passed 0 chunks) quiet))

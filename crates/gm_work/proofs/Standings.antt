@@ -4,16 +4,16 @@ use Rattle.std.specs.List.{list_any}
 use Rattle.std.proofs.Common.{sym, ap, ◌∙◌}
 use Rattle.std.proofs.lemmas.Bool.{and_parts}
 use Rattle.gm_active.specs.Bits.{is_in}
-use Rattle.gm_work.specs.Entries.{Entry}
+use Rattle.gm_work.specs.JobStates.{JobState}
 use Rattle.gm_work.specs.Views.{JobView, Standing, owed_at, with_passed, needed_in, IsMidRound}
 use Rattle.gm_work.proofs.Lists.{is_in-off, has_passed, is_owed, passed_not_owed}
 use Rattle.gm_work.proofs.MidRound.{owed_is}
 
-pub determined : (d : JobView) (s : Standing) (e f : Entry) → IsMidRound d s e → IsMidRound d s f → e ≡ f
-determined d s e f one other = one.entry ∙ sym other.entry
+pub determined : (d : JobView) (s : Standing) (e f : JobState) → IsMidRound d s e → IsMidRound d s f → e ≡ f
+determined d s e f one other = one.state ∙ sym other.state
 
-pub owed : (d : JobView) (s : Standing) (e : Entry) → IsMidRound d s e → e.owed ≡ owed_at d s
-owed d s e mid = ap (λ (f : Entry). f.owed) mid.entry ∙ owed_is d s.phase s.passed
+pub owed : (d : JobView) (s : Standing) (e : JobState) → IsMidRound d s e → e.owed ≡ owed_at d s
+owed d s e mid = ap (λ (f : JobState). f.owed) mid.state ∙ owed_is d s.phase s.passed
 
 pub owed_later : (d : JobView) (s : Standing) (c x : ℕ) → is_in (owed_at d (with_passed s c)) x ≡ (is_in (owed_at d s) x && not (c == x))
 owed_later d s c x = is_in-off (owed_at d s) c x

@@ -7,9 +7,9 @@ use Rattle.gm_base.specs.Graph.{edge}
 use Rattle.gm_label.specs.Catalogues.{catalogue_of}
 use Rattle.gm_label.specs.Examples.{two_ranges, path_counts}
 use Rattle.gm_work.specs.declared.phase.Phase.TheVariants.{Round}
-use Rattle.gm_work.specs.Views.{JobView, entry_in}
+use Rattle.gm_work.specs.Views.{JobView, state_in}
 use Rattle.gm_work.specs.Weights.{run_weight}
-use Rattle.gm_work.specs.Held.{grid_view}
+use Rattle.gm_work.specs.HeldJobs.{grid_view}
 
 abbrev pub over_path : Spec → JobView
 over_path spec = grid_view spec (catalogue_of two_ranges 1 path_counts path_with_shortcut) path_with_shortcut
@@ -27,4 +27,4 @@ passes_of d = run_weight d (λ c. 1)
 
 -- the sums in a round after these chunks were passed, the last one first
 abbrev pub sums_of : JobView → ℕ → List ℕ → List ℕ
-sums_of d round passed = (entry_in d (Round round) passed).sums
+sums_of d round passed = (state_in d (Round round) passed).sums

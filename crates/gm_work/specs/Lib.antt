@@ -1,9 +1,8 @@
-pub mod Entries
+pub mod JobStates
 pub mod Views
-pub mod ViewsRules
 pub mod Weights
-pub mod Held
-pub mod HeldRules
+pub mod HeldJobs
+pub mod ViewsRules
 pub mod Stored
 pub mod Steps
 pub mod Examples

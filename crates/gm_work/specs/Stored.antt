@@ -10,17 +10,17 @@ use Rattle.gm_rank.specs.Ranks.{AreShares}
 use Rattle.gm_active.specs.Bits.{is_in}
 use Rattle.gm_work.specs.declared.phase.Phase.{Phase}
 use Rattle.gm_work.specs.declared.phase.Phase.TheVariants.{Counting, Round}
-use Rattle.gm_work.specs.Entries.{counts_degrees}
-use Rattle.gm_work.specs.Held.{Held}
+use Rattle.gm_work.specs.JobStates.{counts_degrees}
+use Rattle.gm_work.specs.HeldJobs.{HeldJob}
 
 -- a job by what its fields are
-abbrev pub held_as : ℕ → Spec → Catalogue → List Overlay → Phase → List ℕ → List ℕ → List ℕ → List Bool → Held
-held_as job spec cat overlays phase values sums degrees owed = record {
+abbrev pub held_job : ℕ → Spec → Catalogue → List Overlay → Phase → List ℕ → List ℕ → List ℕ → List Bool → HeldJob
+held_job job spec cat overlays phase values sums degrees owed = record {
   job = job;
   spec = spec;
   catalogue = cat;
   overlays = overlays;
-  entry = record { phase = phase; values = values; sums = sums; degrees = degrees; owed = owed };
+  state = record { phase = phase; values = values; sums = sums; degrees = degrees; owed = owed };
 }
 
 -- the number of the round that a phase is of
@@ -35,16 +35,16 @@ AreSharesIn (Round r) values degrees shares = AreShares (λ u. slice_index degre
 
 -- each list has an entry for each vertex or chunk, the catalogue and the overlays are fit for a job, there is another round to make, and
 -- where a rank job owes a chunk its shares are those of the round
-pub record IsStored (h : Held) (shares : List ℕ) (active : List Bool) : Type 0 where
+pub record IsStored (h : HeldJob) (shares : List ℕ) (active : List Bool) : Type 0 where
   pub dimensions : AreDimensions h.catalogue.dimensions.n h.catalogue.dimensions.parts
   pub in_rows : AreInRows h.catalogue
   pub overlays : AreOverlays h.catalogue h.overlays
-  pub values : length h.entry.values ≡ h.catalogue.dimensions.n
-  pub sums : length h.entry.sums ≡ h.catalogue.dimensions.n
-  pub degrees : length h.entry.degrees ≡ h.catalogue.dimensions.n
+  pub values : length h.state.values ≡ h.catalogue.dimensions.n
+  pub sums : length h.state.sums ≡ h.catalogue.dimensions.n
+  pub degrees : length h.state.degrees ≡ h.catalogue.dimensions.n
   pub marks : length active ≡ h.catalogue.dimensions.n
-  pub owed : length h.entry.owed ≡ length h.catalogue.places
+  pub owed : length h.state.owed ≡ length h.catalogue.places
   pub share_count : counts_degrees h.spec ≡ true → length shares ≡ h.catalogue.dimensions.n
-  pub round : round_of_phase h.entry.phase < most_rounds h.spec
-  pub shares_taken : (c : ℕ) → is_in h.entry.owed c ≡ true → counts_degrees h.spec ≡ true
-      → AreSharesIn h.entry.phase h.entry.values h.entry.degrees shares
+  pub round : round_of_phase h.state.phase < most_rounds h.spec
+  pub shares_taken : (c : ℕ) → is_in h.state.owed c ≡ true → counts_degrees h.spec ≡ true
+      → AreSharesIn h.state.phase h.state.values h.state.degrees shares

@@ -1,4 +1,4 @@
--- What proofs need of views: edges of a block go to the block's column.
+-- What proofs need of views: edges of a block go to the block's column. A job stays the same from step to step.
 use Rattle.std.specs.Prelude.{◌≡◌, ℕ, ◌*◌, ◌%◌, ◌<◌, ◌≤◌, List, [], ◌∷◌, All}
 use Rattle.std.specs.List.{AllByRecursion}
 use Rattle.std.proofs.Common.{sym, ap, ◌∙◌, arith}
@@ -10,6 +10,7 @@ use Rattle.gm_base.specs.Dimensions.{Dimensions, AreDimensions, width_of, range_
 use Rattle.gm_base.specs.DimensionsRules.{width_above, range_below}
 use Rattle.gm_base.specs.Graph.{HasEndsBelow}
 use Rattle.gm_active.specs.Needs.{first_destination_of, end_destination_of}
+use Rattle.gm_work.specs.HeldJobs.{HeldJob, IsSameJob}
 
 -- each edge goes to its block's column
 in_column : (d : Dimensions) (block : ℕ) (e : Edge) → AreDimensions d.n d.parts → HasEndsBelow d.n e → block_of d e ≡ block
@@ -34,3 +35,6 @@ pub blocks-in_columns : (d : Dimensions) (block : ℕ) (edges : List Edge) → A
 blocks-in_columns d block edges dims ends blocks =
     All-from_recursion _ edges
     (columns d block edges dims (recursion_from_All (HasEndsBelow d.n) edges ends) (recursion_from_All (λ e. block_of d e ≡ block) edges blocks))
+
+pub same_job-then : (a b c : HeldJob) → IsSameJob a b → IsSameJob b c → IsSameJob a c
+same_job-then a b c p q = record { job = q.job ∙ p.job; spec = q.spec ∙ p.spec; catalogue = q.catalogue ∙ p.catalogue; overlays = q.overlays ∙ p.overlays }

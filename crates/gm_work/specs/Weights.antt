@@ -5,7 +5,7 @@ use Rattle.gm_base.specs.declared.job.Outcome.TheVariants.{Done, Rounds, Read, C
 use Rattle.gm_kernel.specs.Runs.{lone_run}
 use Rattle.gm_work.specs.declared.phase.Phase.{Phase}
 use Rattle.gm_work.specs.declared.phase.Phase.TheVariants.{Counting, Round}
-use Rattle.gm_work.specs.Entries.{counts_degrees}
+use Rattle.gm_work.specs.JobStates.{counts_degrees}
 use Rattle.gm_work.specs.Views.{JobView, Standing, StandingTurn, needed_in, owed_at}
 use Rattle.gm_work.specs.Views.StandingTurn.{StandsAt, EndsWith}
 
@@ -26,7 +26,7 @@ rounds_of (Changed block chunk) = 0
 rounds_of Memory = 0
 
 abbrev pub run_rounds : JobView → ℕ
-run_rounds d = rounds_of (lone_run d.known.spec d.known.dimensions.n d.edges)
+run_rounds d = rounds_of (lone_run d.context.spec d.context.dimensions.n d.edges)
 
 -- the needed chunks of so many rounds, from this one on
 abbrev pub rounds_weight : JobView → (ℕ → ℕ) → ℕ → ℕ → ℕ
@@ -36,7 +36,7 @@ rounds_weight d weight r (suc more) = weigh weight (needed_in d (Round r)) + rou
 -- those of all phases of the lone run
 abbrev pub run_weight : JobView → (ℕ → ℕ) → ℕ
 run_weight d weight =
-    (if counts_degrees d.known.spec then weigh weight (needed_in d (Counting 0)) else 0) + rounds_weight d weight 0 (run_rounds d)
+    (if counts_degrees d.context.spec then weigh weight (needed_in d (Counting 0)) else 0) + rounds_weight d weight 0 (run_rounds d)
 
 -- those of the phases behind this one
 abbrev pub later_weight : JobView → (ℕ → ℕ) → Phase → ℕ

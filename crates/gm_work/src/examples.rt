@@ -10,7 +10,7 @@ ghost use Rattle.gm_work.specs.Examples.{over_path, over_backwards, passes_of, s
 ghost use Rattle.gm_work.specs.Views.{needed_in};
 
 use crate::Phase;
-use gm_base::Spec;
+use gm_base::{Spec, TOP};
 
 /// Levels from vertex 0 pass 0>1 and 0>2, then 1>2 and 2>3; distances pass 2>3 once more, in a round of its own.
 pub fn passes_of_paths()
@@ -34,12 +34,15 @@ pub fn passes_of_ranks()
 
 /// The second round of levels needs 1>2 and 2>3, and the third round of labels 1>2 for its column alone.
 pub fn needed_in_a_round()
-    ensures levels { needed_in (over_path (Spec.Bfs 0 5)) (Phase.Round 1) ≡ false ∷ true ∷ false ∷ false ∷ true ∷ [] }
-    ensures column { needed_in (over_backwards (Spec.Wcc 5)) (Phase.Round 2) ≡ false ∷ true ∷ false ∷ true ∷ [] }
-    ensures counting { needed_in (over_path (Spec.Rank 2)) (Phase.Counting 0) ≡ true ∷ true ∷ true ∷ false ∷ true ∷ [] }
+    ensures levels { needed_in (over_path (Spec.Bfs 0 5)) (Phase.Round 1)
+        ≡ false ∷ true ∷ false ∷ false ∷ true ∷ [] }
+    ensures column { needed_in (over_backwards (Spec.Wcc 5)) (Phase.Round 2)
+        ≡ false ∷ true ∷ false ∷ true ∷ [] }
+    ensures counting { needed_in (over_path (Spec.Rank 2)) (Phase.Counting 0)
+        ≡ true ∷ true ∷ true ∷ false ∷ true ∷ [] }
 {}
 
 /// The sums of the first round of levels, after a pass over 0>2 and then one over 0>1.
 pub fn sums_in_a_round()
-    ensures { sums_of (over_path (Spec.Bfs 0 5)) 0 (0 ∷ 2 ∷ []) ≡ 0 ∷ 1 ∷ 1 ∷ 18446744073709551615 ∷ [] }
+    ensures { sums_of (over_path (Spec.Bfs 0 5)) 0 (0 ∷ 2 ∷ []) ≡ 0 ∷ 1 ∷ 1 ∷ TOP ∷ [] }
 {}

@@ -5,7 +5,7 @@ ghost use Rattle.std.specs.List.{range_with_len};
 ghost use Rattle.gm_base.specs.declared.limits.TheConstants.{MAX_VERTICES};
 ghost use Rattle.gm_kernel.specs.Kernels.{kernel_of};
 ghost use Rattle.gm_kernel.specs.Runs.{most_rounds};
-ghost use Rattle.gm_work.specs.Entries.{counts_degrees, is_done_by};
+ghost use Rattle.gm_work.specs.JobStates.{counts_degrees, is_done_by};
 
 use gm_base::Spec;
 use gm_kernel::Kernel;
@@ -56,7 +56,8 @@ pub(crate) fn is_done(spec: Spec, round: u32, before: &[u64], after: &[u64]) -> 
 
 fn begin<K: Kernel>(kernel: &K, values: &mut [u64])
     requires { length values.old ≤ MAX_VERTICES }
-    ensures { values.new ≡ map (K.functions kernel.now).initial_value (range_with_len 0 (length values.old)) }
+    ensures { values.new
+        ≡ map (K.functions kernel.now).initial_value (range_with_len 0 (length values.old)) }
 {
     for (vertex, value) in values.iter_mut().enumerate() {
         *value = kernel.init(vertex as u32);
@@ -78,7 +79,8 @@ pub(crate) fn begin_values(spec: Spec, values: &mut [u64])
 
 fn carry<K: Kernel>(kernel: &K, values: &[u64], sums: &mut [u64])
     requires { length sums.old ≡ length values.now }
-    ensures { sums.new ≡ map (λ v. (K.functions kernel.now).carried_value (slice_index values.now v)) (range_with_len 0 (length values.now)) }
+    ensures { sums.new
+        ≡ map (λ v. (K.functions kernel.now).carried_value (slice_index values.now v)) (range_with_len 0 (length values.now)) }
 {
     for (vertex, &value) in values.iter().enumerate() {
         sums[vertex] = kernel.start(value);
@@ -88,7 +90,8 @@ fn carry<K: Kernel>(kernel: &K, values: &[u64], sums: &mut [u64])
 /// Writes what each vertex carries of its value into the sums of the next round.
 pub(crate) fn carry_values(spec: Spec, values: &[u64], sums: &mut [u64])
     requires { length sums.old ≡ length values.now }
-    ensures { sums.new ≡ map (λ v. (kernel_of spec).carried_value (slice_index values.now v)) (range_with_len 0 (length values.now)) }
+    ensures { sums.new
+        ≡ map (λ v. (kernel_of spec).carried_value (slice_index values.now v)) (range_with_len 0 (length values.now)) }
 {
     match spec {
         Spec::Bfs { source, .. } => carry(&Bfs { source }, values, sums),

@@ -5,7 +5,7 @@ ghost use Rattle.gm_base.specs.declared.limits.TheConstants.{MAX_VERTICES};
 ghost use Rattle.gm_kernel.specs.Activity.{activity_of, active_at};
 ghost use Rattle.gm_rank.specs.Ranks.{AreShares};
 ghost use Rattle.gm_active.specs.Bits.{is_in};
-ghost use Rattle.gm_work.specs.Entries.{counts_degrees};
+ghost use Rattle.gm_work.specs.JobStates.{counts_degrees};
 
 use gm_active::Active;
 use gm_base::Spec;
@@ -43,7 +43,8 @@ fn mark_active<K: Kernel>(
 fn mark_shares(shares: &[u64], active: &mut Active)
     requires few { length shares.now ≤ MAX_VERTICES }
     requires marks { length active.old ≡ length shares.now }
-    ensures marked { (v : ℕ) → v < length shares.now → is_in active.new v ≡ not (slice_index shares.now v == 0) }
+    ensures marked { (v : ℕ) → v < length shares.now
+        → is_in active.new v ≡ not (slice_index shares.now v == 0) }
     ensures length { length active.new ≡ length active.old }
 {
     active.clear();
@@ -74,7 +75,8 @@ pub(crate) fn mark_round(
     ensures marked { (v : ℕ) → v < length values.now → is_in active.new v
         ≡ active_at (activity_of spec) first older.now values.now (λ u. slice_index degrees.now u) v }
     ensures length { length active.new ≡ length active.old }
-    ensures shares { counts_degrees spec ≡ true → AreShares (λ u. slice_index degrees.now u) values.now shares.new }
+    ensures shares { counts_degrees spec ≡ true
+        → AreShares (λ u. slice_index degrees.now u) values.now shares.new }
     ensures share_count { length shares.new ≡ length shares.old }
 {
     match spec {

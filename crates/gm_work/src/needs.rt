@@ -8,7 +8,7 @@ ghost use Rattle.gm_label.specs.Catalogues.{place_at, AreInRows};
 ghost use Rattle.gm_label.specs.Overlays.{sources_under, AreOverlays};
 
 use crate::kinds::is_two_way;
-use gm_active::{Active, ChunkSet, owed};
+use gm_active::{Active, ChunkSet, find_needed};
 use gm_base::Spec;
 use gm_label::{Catalogue, Overlays};
 
@@ -27,9 +27,10 @@ pub(crate) fn owe_needed(
     requires chunks { length into.old ≡ length catalogue.now.places }
     ensures needed { (is_active : ℕ → Bool)
         → ((v : ℕ) → v < catalogue.now.dimensions.n → is_in active.now v ≡ is_active v)
-        → into.new ≡ needed_chunks catalogue.now.dimensions (kernel_of spec).is_two_way is_active (length catalogue.now.places)
+        → into.new
+        ≡ needed_chunks catalogue.now.dimensions (kernel_of spec).is_two_way is_active (length catalogue.now.places)
         (λ c. (place_at catalogue.now c).block) (sources_under catalogue.now overlays.now) }
     ensures length { length into.new ≡ length into.old }
 {
-    owed(catalogue, overlays, active, is_two_way(spec), into);
+    find_needed(catalogue, overlays, active, is_two_way(spec), into);
 }

@@ -6,18 +6,19 @@ ghost use Rattle.gm_base.specs.Graph.{HasEndsBelow, out_degree};
 ghost use Rattle.gm_kernel.specs.Kernels.{kernel_of};
 ghost use Rattle.gm_kernel.specs.Runs.{joined_at};
 ghost use Rattle.gm_rank.specs.Ranks.{rank_job, AreShares};
-ghost use Rattle.gm_work.specs.Entries.{counts_degrees};
+ghost use Rattle.gm_work.specs.JobStates.{counts_degrees};
 
 use gm_base::{Edge, Spec};
 use gm_kernel::pass_edges;
 use gm_paths::{Bfs, Sssp};
-use gm_rank::{count_pass, pass_shares};
+use gm_rank::{MAX_DEGREE, count_pass, pass_shares};
 use gm_wcc::Least;
 
-/// Counts these edges into the out-degrees of their sources. A count stops at `u32::MAX`.
+/// Counts these edges into the out-degrees of their sources. A count stops at `MAX_DEGREE`.
 pub(crate) fn count_edges(edges: &[Edge], degrees: &mut [u32])
     requires { All (HasEndsBelow (length degrees.old)) edges.now }
-    ensures { degrees.new ≡ map (λ u. min (slice_index degrees.old u + out_degree edges.now u) u32.MAX) (range_with_len 0 (length degrees.old)) }
+    ensures { degrees.new
+        ≡ map (λ u. min (slice_index degrees.old u + out_degree edges.now u) MAX_DEGREE) (range_with_len 0 (length degrees.old)) }
 {
     count_pass(edges, degrees);
 }
@@ -33,11 +34,13 @@ pub(crate) fn join_gifts(
     sums: &mut [u64],
 )
     requires shares { counts_degrees spec ≡ true
-        → (length shares.now ≡ length values.now) × AreShares (λ u. slice_index degrees.now u) values.now shares.now }
+        → (length shares.now ≡ length values.now)
+        × AreShares (λ u. slice_index degrees.now u) values.now shares.now }
     requires ends { All (HasEndsBelow (length values.now)) edges.now }
     requires degrees { length degrees.now ≡ length values.now }
     requires sums { length sums.old ≡ length values.now }
-    ensures { sums.new ≡ map (λ v. joined_at (kernel_of spec) (λ u. slice_index degrees.now u) values.now edges.now v (slice_index sums.old v))
+    ensures { sums.new
+        ≡ map (λ v. joined_at (kernel_of spec) (λ u. slice_index degrees.now u) values.now edges.now v (slice_index sums.old v))
         (range_with_len 0 (length values.now)) }
 {
     match spec {

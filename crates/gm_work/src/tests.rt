@@ -78,10 +78,10 @@ fn pass_owed(alloc: Global, work: &mut Work, chunk: u32, edges: &[Edge]) -> Resu
     if !is_path || !work.owes(chunk) {
         return Ok(false);
     }
-    let key = Key {
-        chunk,
-        tag: Tag::Update(0),
-    };
+    let key = work.key(chunk);
+    if key.chunk != chunk {
+        return Ok(false);
+    }
     let copy = copy_of(alloc, key, edges)?;
     work.pass(&copy);
     Ok(true)
@@ -105,15 +105,6 @@ fn passes(alloc: Global, work: &mut Work, chunks: &[u32]) -> Result<bool, Fail> 
     Ok(work.owes_none())
 }
 
-/// Turns the job where it owes nothing.
-fn turn(work: &mut Work) -> Option<Turned> {
-    if work.owes_none() {
-        Some(work.turn())
-    } else {
-        None
-    }
-}
-
 /// The least owed chunk of those from this one on.
 fn least_from(work: &Work, chunk: u32) -> Option<u32> {
     work.least_owed(chunk, work.catalogue().chunks())
@@ -131,7 +122,7 @@ fn run(alloc: Global, work: &mut Work, phases: &[&[u32]]) -> Result<Option<Turne
         if turned != Some(Turned::Owes) || !passes(alloc, work, chunks)? {
             return Ok(None);
         }
-        turned = turn(work);
+        turned = Some(work.turn());
     }
     Ok(turned)
 }
@@ -159,7 +150,7 @@ fn what_a_job_owes_first(rt: HostRuntime) -> Result<(), Fail> {
     let mut work = path_job(rt.alloc(), spec)?;
     assert_eq!(rt; work.phase(), Phase::Round { round: 0 });
     assert_eq!(rt; work.phases_left(), 5);
-    assert_eq!(rt; turn(&mut work), None);
+    assert_eq!(rt; work.turn(), Turned::Owes);
     assert_eq!(rt; least_from(&work, 0), Some(0));
     assert_eq!(rt; least_from(&work, 1), Some(2));
     assert_eq!(rt; least_from(&work, 3), None);
@@ -252,10 +243,10 @@ fn one_vertex_without_edges(rt: HostRuntime) -> Result<(), Fail> {
         bound: 2,
     };
     let mut reached = lone_job(rt.alloc(), spec)?;
-    assert_eq!(rt; turn(&mut reached), Some(Turned::Done { rounds: 1 }));
+    assert_eq!(rt; reached.turn(), Turned::Done { rounds: 1 });
     assert!(rt; values_are(reached, &[0]));
     let mut ranked = lone_job(rt.alloc(), Spec::Rank { rounds: 3 })?;
-    assert_eq!(rt; turn(&mut ranked), Some(Turned::Done { rounds: 3 }));
+    assert_eq!(rt; ranked.turn(), Turned::Done { rounds: 3 });
     assert!(rt; values_are(ranked, &[150_000_000]));
     Ok(())
 }
@@ -293,7 +284,7 @@ fn an_added_source_makes_an_empty_chunk_owed(rt: HostRuntime) -> Result<(), Fail
         weight: 9,
     };
     assert!(rt; pass_owed(alloc, &mut work, 3, &[added])?);
-    assert_eq!(rt; turn(&mut work), Some(Turned::Owes));
+    assert_eq!(rt; work.turn(), Turned::Owes);
     assert!(rt; passes(alloc, &mut work, &[2, 0])?);
     Ok(())
 }

@@ -6,10 +6,10 @@ ghost use Rattle.gm_base.specs.Graph.{HasEndsBelow};
 ghost use Rattle.gm_kernel.specs.Runs.{most_rounds};
 ghost use Rattle.gm_active.specs.Bits.{is_in, NoneBetween, IsLeastBetween};
 ghost use Rattle.gm_label.specs.Overlays.{key_at, AreOverlays};
-ghost use Rattle.gm_work.specs.Entries.{counted, owes_any, passing, phases_left};
-ghost use Rattle.gm_work.specs.Held.{admitted, knows, known_of, IsSameJob, IsTurned};
+ghost use Rattle.gm_work.specs.JobStates.{counted_chunks_of, owes_any, state_after_pass, phases_left};
+ghost use Rattle.gm_work.specs.HeldJobs.{admitted_job, context_in, context_of, IsSameJob, IsTurned};
 ghost use Rattle.gm_work.specs.Stored.{round_of_phase};
-ghost use Rattle.gm_work.specs.Steps.{IsPhaseEnded, unbegun_entry, with_round, with_next_round};
+ghost use Rattle.gm_work.specs.Steps.{IsPhaseEnded, unbegun_state, with_round, with_next_round};
 
 use crate::Phase;
 use crate::keys::key_of;
@@ -17,7 +17,7 @@ use crate::kinds::{begin_values, carry_values, counts_degrees, is_done, most_rou
 use crate::marks::mark_round;
 use crate::needs::owe_needed;
 use crate::passes::{count_edges, join_gifts};
-use gm_active::{Active, ChunkSet, counted};
+use gm_active::{Active, ChunkSet, find_counted};
 use gm_base::{ChunkCopy, Key, Memory, Spec, Turned, Values};
 use gm_label::{Catalogue, Overlays};
 use std::alloc::Global;
@@ -45,15 +45,15 @@ pub struct Work {
 
 impl Model for Work {
     ghost use Rattle.std.specs.Arc.{arc_value};
-    ghost use Rattle.gm_work.specs.Held.{Held};
-    ghost use Rattle.gm_work.specs.Stored.{held_as, IsStored};
+    ghost use Rattle.gm_work.specs.HeldJobs.{HeldJob};
+    ghost use Rattle.gm_work.specs.Stored.{held_job, IsStored};
 
-    ghost Value = { Held };
+    ghost Value = { HeldJob };
 
-    ghost view = { λ a. held_as a.job a.spec (arc_value a.catalogue) a.overlays a.phase a.values.items a.sums.items a.degrees.items a.owed };
+    ghost view = { λ a. held_job a.job a.spec (arc_value a.catalogue) a.overlays a.phase a.values.items a.sums.items a.degrees.items a.owed };
 
     ghost invariant = { λ a. IsStored
-        (held_as a.job a.spec (arc_value a.catalogue) a.overlays a.phase a.values.items a.sums.items a.degrees.items a.owed)
+        (held_job a.job a.spec (arc_value a.catalogue) a.overlays a.phase a.values.items a.sums.items a.degrees.items a.owed)
         a.shares.items a.active };
 }
 
@@ -61,14 +61,14 @@ impl Work {
     /// Whether the job owes a chunk.
     pub fn owes(&self, chunk: u32) -> bool
         requires { chunk < length self.now.catalogue.places }
-        ensures { result ≡ is_in self.now.entry.owed chunk }
+        ensures { result ≡ is_in self.now.state.owed chunk }
     {
         self.owed.has(chunk)
     }
 
     /// Whether the job owes no chunk.
     pub fn owes_none(&self) -> bool
-        ensures { result ≡ not (owes_any self.now.entry.owed) }
+        ensures { result ≡ not (owes_any self.now.state.owed) }
     {
         self.owed.is_empty()
     }
@@ -76,9 +76,9 @@ impl Work {
     /// The least chunk that the job owes, of those from this one on and below the end. `None` exactly where it owes none of them.
     pub fn least_owed(&self, from: u32, to: u32) -> Option<u32>
         requires { to ≤ length self.now.catalogue.places }
-        ensures some { IfSome result (IsLeastBetween (is_in self.now.entry.owed) from to) }
-        ensures none { IfNone result (NoneBetween (is_in self.now.entry.owed) from to) }
-        ensures length { length self.now.entry.owed ≡ length self.now.catalogue.places }
+        ensures some { IfSome result (IsLeastBetween (is_in self.now.state.owed) from to) }
+        ensures none { IfNone result (NoneBetween (is_in self.now.state.owed) from to) }
+        ensures length { length self.now.state.owed ≡ length self.now.catalogue.places }
     {
         self.owed.least(from, to)
     }
@@ -99,14 +99,14 @@ impl Work {
 
     /// The job's phase.
     pub fn phase(&self) -> Phase
-        ensures { result ≡ self.now.entry.phase }
+        ensures { result ≡ self.now.state.phase }
     {
         self.phase
     }
 
     /// How many phases there are at most from this one on.
     pub fn phases_left(&self) -> u64
-        ensures { result ≡ phases_left self.now.spec self.now.entry.phase }
+        ensures { result ≡ phases_left self.now.spec self.now.state.phase }
     {
         let most = u64::from(most_rounds(self.spec));
         match self.phase {
@@ -131,7 +131,7 @@ impl Work {
 
     /// The values as the round began, after a turn that answered `Done` those of the job's end. It takes no memory.
     pub fn into_values(self) -> Values
-        ensures { result ≡ self.entry.values }
+        ensures { result ≡ self.state.values }
     {
         Values::from_vec(self.values)
     }
@@ -146,8 +146,9 @@ impl Work {
     ) -> Result<Work, Memory>
         requires some_round { 1 ≤ most_rounds spec }
         requires overlays { AreOverlays (arc_value catalogue) overlays }
-        ensures { IfOk result (λ work. work ≡ record (admitted job spec (arc_value catalogue) overlays) {
-          entry = unbegun_entry (known_of spec (arc_value catalogue) overlays);
+        ensures { IfOk result (λ work. work
+            ≡ record (admitted_job job spec (arc_value catalogue) overlays) {
+          state = unbegun_state (context_of spec (arc_value catalogue) overlays);
         }) }
     {
         let vertices = catalogue.shape().n();
@@ -187,7 +188,7 @@ impl Work {
     ) -> Result<Work, Memory>
         requires some_round { 1 ≤ most_rounds spec }
         requires overlays { AreOverlays (arc_value cat) overlays }
-        ensures { IfOk result (λ work. work ≡ admitted job spec (arc_value cat) overlays) }
+        ensures { IfOk result (λ work. work ≡ admitted_job job spec (arc_value cat) overlays) }
     {
         let mut work = Work::unbegun(alloc, cat, overlays, job, spec)?;
         if counts_degrees(spec) {
@@ -200,16 +201,18 @@ impl Work {
 
     /// Makes the chunks owed over which out-degrees are counted.
     fn owe_counted(&mut self)
-        requires { self.old.entry.phase ≡ Phase.Counting 0 }
-        ensures { self.new ≡ record self.old { entry = record self.old.entry { owed = counted (knows self.old) } } }
+        requires { self.old.state.phase ≡ Phase.Counting 0 }
+        ensures { self.new
+            ≡ record self.old { state = record self.old.state { owed = counted_chunks_of (context_in self.old) } } }
     {
-        counted(&self.catalogue, &self.overlays, &mut self.owed);
+        find_counted(&self.catalogue, &self.overlays, &mut self.owed);
     }
 
     /// The round of this number begins from the values as they are.
     fn begin_round(&mut self, round: u32)
         requires { round < most_rounds self.old.spec }
-        ensures { self.new ≡ record self.old { entry = with_round (knows self.old) round self.old.entry } }
+        ensures { self.new
+            ≡ record self.old { state = with_round (context_in self.old) round self.old.state } }
     {
         mark_round(
             self.spec,
@@ -228,7 +231,8 @@ impl Work {
     /// The round of this number begins from the sums of the one before.
     fn begin_next_round(&mut self, round: u32)
         requires { round < most_rounds self.old.spec }
-        ensures { self.new ≡ record self.old { entry = with_next_round (knows self.old) round self.old.entry } }
+        ensures { self.new
+            ≡ record self.old { state = with_next_round (context_in self.old) round self.old.state } }
     {
         mem::swap(&mut self.values, &mut self.sums);
         mark_round(
@@ -249,9 +253,11 @@ impl Work {
     /// Passes a chunk that the job owes: joins what its edges give into the sums of the round, or counts them into the out-degrees. The
     /// copy is the one of the job's key.
     pub fn pass(&mut self, copy: &ChunkCopy)
-        requires owed { is_in self.old.entry.owed copy.now.key.chunk ≡ true }
+        requires key { copy.now.key ≡ key_at self.old.overlays copy.now.key.chunk }
+        requires owed { is_in self.old.state.owed copy.now.key.chunk ≡ true }
         requires ends { All (HasEndsBelow self.old.catalogue.dimensions.n) copy.now.edges }
-        ensures { self.new ≡ record self.old { entry = passing (knows self.old) self.old.entry copy.now.key.chunk copy.now.edges } }
+        ensures { let passed = state_after_pass (context_in self.old) self.old.state copy.now.key.chunk copy.now.edges in
+            self.new ≡ record self.old { state = passed } }
     {
         self.owed.remove(copy.key.chunk);
         let edges = copy.edges.as_slice();
@@ -266,10 +272,10 @@ impl Work {
 
     /// Ends a round: its sums become the values, and the job is done, or has made all of its rounds, or begins the next one.
     fn end_round(&mut self, round: u32) -> Turned
-        requires phase { self.old.entry.phase ≡ Phase.Round round }
-        requires none { owes_any self.old.entry.owed ≡ false }
+        requires phase { self.old.state.phase ≡ Phase.Round round }
+        requires none { owes_any self.old.state.owed ≡ false }
         ensures job { IsSameJob self.old self.new }
-        ensures ended { IsPhaseEnded (knows self.old) self.old.entry result self.new.entry }
+        ensures ended { IsPhaseEnded (context_in self.old) self.old.state result self.new.state }
     {
         let most = most_rounds(self.spec);
         let rounds = round + 1;
@@ -286,10 +292,10 @@ impl Work {
 
     /// Ends one phase of a job that owes nothing in it.
     fn end_phase(&mut self) -> Turned
-        requires { owes_any self.old.entry.owed ≡ false }
+        requires { owes_any self.old.state.owed ≡ false }
         ensures job { IsSameJob self.old self.new }
-        ensures ended { IsPhaseEnded (knows self.old) self.old.entry result self.new.entry }
-        ensures some_round { round_of_phase self.old.entry.phase < most_rounds self.old.spec }
+        ensures ended { IsPhaseEnded (context_in self.old) self.old.state result self.new.state }
+        ensures some_round { round_of_phase self.old.state.phase < most_rounds self.old.spec }
     {
         match self.phase {
             Phase::Counting { round } => {
@@ -302,10 +308,10 @@ impl Work {
 
     /// Ends a job's phase, and the next one, and so on, as long as it owes no chunk. `Owes` comes where it goes on and owes a chunk again,
     /// `Done` where it has ended, with the rounds that it made, and `Bound` where it hasn't settled after as many rounds as its bound allows.
+    /// A job that owes a chunk answers `Owes` and stays as it is. Of a job that answered `Done` the values are the outcome's.
     pub fn turn(&mut self) -> Turned
-        requires { owes_any self.old.entry.owed ≡ false }
         ensures job { IsSameJob self.old self.new }
-        ensures turned { IsTurned (knows self.old) self.old.entry result self.new.entry }
+        ensures turned { IsTurned (context_in self.old) self.old.state result self.new.state }
     {
         while self.owes_none() {
             match self.end_phase() {

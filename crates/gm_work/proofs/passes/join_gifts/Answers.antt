@@ -1,5 +1,5 @@
 use Rattle.std.proofs.Common.{◌≡◌, true, ap, ◌∙◌}
-use Rattle.gm_work.specs.Entries.{counts_degrees}
+use Rattle.gm_work.specs.JobStates.{counts_degrees}
 use Rattle.gm_work.proofs.Passing.{joined-each}
 use Rattle.gm_work.proofs.passes.join_gifts.Goals as goal
 

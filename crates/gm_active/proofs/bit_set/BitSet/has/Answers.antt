@@ -2,13 +2,13 @@ use Rattle.std.proofs.Common.{◌≡◌, ℕ, ◌/◌, ◌%◌, ◌<◌, Bool, L
 use Rattle.std.specs.Int.{bit_at}
 use Rattle.std.proofs.lemmas.List.{get_or_default}
 use Rattle.gm_active.specs.Bits.{is_in}
-use Rattle.gm_active.specs.Words.{marked, marks_of, AreWords}
+use Rattle.gm_active.specs.Words.{has_mark, marks_of, AreWords}
 use Rattle.gm_active.proofs.Marks.{mark_below, slot_within, marks_at}
 use Rattle.gm_active.proofs.bit_set.BitSet.has.Goals as goal
 
 value : (n v word : ℕ) (words : List ℕ) (marks : List Bool) → AreWords n words → marks_of n words ≡ marks → v / 64 < length words
     → word ≡ get_or words (v / 64) word → eqb (bit_at word (v % 64)) 1 ≡ is_in marks v
-unfolding marked
+unfolding has_mark
 value n v word words marks are view within is =
     ap (λ (w : ℕ). eqb (bit_at w (v % 64)) 1) (is ∙ get_or_default words (v / 64) word 0 within) ∙ sym (marks_at n words v are) ∙ ap (λ (xs : List Bool). is_in xs v) view
 

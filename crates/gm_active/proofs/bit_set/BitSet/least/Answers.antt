@@ -2,7 +2,7 @@ use Rattle.std.proofs.Common.{◌≡◌, ℕ, ◌+◌, ◌-◌, ◌*◌, ◌/◌
 use Rattle.std.proofs.lemmas.List.{get_or_default}
 use Rattle.std.specs.Int.{bit_at, div_ceil}
 use Rattle.gm_active.specs.Bits.{NoneBetween, IsLeastBetween}
-use Rattle.gm_active.specs.Words.{marked, marks_of, AreWords}
+use Rattle.gm_active.specs.Words.{has_mark, marks_of, AreWords}
 use Rattle.gm_active.proofs.Marks.{length-marks_of}
 use Rattle.gm_active.proofs.Searching.{none_up_to, marked_bit, none_in_marks, least_in_marks}
 use Rattle.gm_active.proofs.bit_set.BitSet.least.Goals as goal
@@ -15,19 +15,19 @@ word_within n at end words marks are view within below =
     omega arith
 
 -- none from there on before this word and in it below this bit
-none_before : (words : List ℕ) (from at word low bit : ℕ) → at < length words → word ≡ get_or words at word → low ≡ from - at * 64 → NoneBetween (marked words) from (64 * at)
-    → bit ≤ 64 → ((i : ℕ) → low ≤ i → i < bit → bit_at word i ≡ 0) → NoneBetween (marked words) from (64 * at + bit)
+none_before : (words : List ℕ) (from at word low bit : ℕ) → at < length words → word ≡ get_or words at word → low ≡ from - at * 64 → NoneBetween (has_mark words) from (64 * at)
+    → bit ≤ 64 → ((i : ℕ) → low ≤ i → i < bit → bit_at word i ≡ 0) → NoneBetween (has_mark words) from (64 * at + bit)
 none_before words from at word low bit within is start before small none =
     none_up_to words from at word bit (is ∙ get_or_default words at word 0 within) before small (λ i above below. none i (omega arith) below)
 
-least_here : (words : List ℕ) (from end at word low bit : ℕ) → at < length words → word ≡ get_or words at word → low ≡ from - at * 64 → NoneBetween (marked words) from (64 * at)
-    → low ≤ bit → bit < 64 → bit_at word bit ≡ 1 → ((i : ℕ) → low ≤ i → i < bit → bit_at word i ≡ 0) → at * 64 + bit < end → IsLeastBetween (marked words) from end (at * 64 + bit)
+least_here : (words : List ℕ) (from end at word low bit : ℕ) → at < length words → word ≡ get_or words at word → low ≡ from - at * 64 → NoneBetween (has_mark words) from (64 * at)
+    → low ≤ bit → bit < 64 → bit_at word bit ≡ 1 → ((i : ℕ) → low ≤ i → i < bit → bit_at word i ≡ 0) → at * 64 + bit < end → IsLeastBetween (has_mark words) from end (at * 64 + bit)
 least_here words from end at word low bit within is start before above small here none less =
     let place : at * 64 + bit ≡ 64 * at + bit = omega arith in
     record {
       low = omega arith;
       high = less;
-      here = ap (marked words) place ∙ marked_bit words at word bit (is ∙ get_or_default words at word 0 within) small here;
+      here = ap (has_mark words) place ∙ marked_bit words at word bit (is ∙ get_or_default words at word 0 within) small here;
       before = λ k low_k high_k. none_before words from at word low bit within is start before (omega arith) none k low_k (omega arith);
     }
 

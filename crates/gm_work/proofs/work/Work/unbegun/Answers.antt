@@ -5,7 +5,7 @@ use Rattle.std.proofs.lemmas.List.{with_items_is, length-replicate}
 use Rattle.gm_base.specs.Dimensions.{Dimensions, AreDimensions}
 use Rattle.gm_label.specs.Catalogues.{Catalogue, AreInRows}
 use Rattle.gm_work.specs.declared.phase.Phase.TheVariants.{Counting}
-use Rattle.gm_work.specs.Stored.{held_as}
+use Rattle.gm_work.specs.Stored.{held_job}
 use Rattle.gm_work.proofs.Admitting.{unbegun-is}
 use Rattle.gm_work.proofs.work.Work.unbegun.Goals as goal
 
@@ -38,7 +38,7 @@ pub returns : goal.returns
 returns c =
     let a = c.args in
     let cat = arc_value a.catalogue in
-    let held = held_as a.job a.spec cat a.overlays (Counting 0) in
+    let held = held_job a.job a.spec cat a.overlays (Counting 0) in
     let every : c.n-vertices.result ≡ cat.dimensions.n =
     c.n-vertices.ensures.value ∙ ap (λ (d : Dimensions). d.n) c.shape.ensures ∙ ap (λ (x : Catalogue). x.dimensions.n) c.deref.ensures in
     let whole : c.chunks.result ≡ length cat.places = c.chunks.ensures.value ∙ ap (λ (x : Catalogue). length x.places) c.deref-3.ensures in

@@ -8,13 +8,13 @@ use Rattle.gm_base.specs.declared.job.Turned.TheVariants.{Owes, Done, Bound}
 use Rattle.gm_label.specs.declared.chunk.Overlay.{Overlay}
 use Rattle.gm_label.specs.Catalogues.{Catalogue, place_at, base_at}
 use Rattle.gm_label.specs.Overlays.{sources_under}
-use Rattle.gm_work.specs.Entries.{Known, Entry, first_entry, owes_any, turned}
-use Rattle.gm_work.specs.Entries.Turning.{Goes, Ends}
+use Rattle.gm_work.specs.JobStates.{JobContext, JobState, first_state, owes_any, turning_of}
+use Rattle.gm_work.specs.JobStates.Turning.{Goes, Ends}
 use Rattle.gm_work.specs.Views.{JobView}
 
 -- what a job knows of a grid's chunks
-abbrev pub known_of : Spec → Catalogue → List Overlay → Known
-known_of spec cat overlays = record {
+abbrev pub context_of : Spec → Catalogue → List Overlay → JobContext
+context_of spec cat overlays = record {
   spec = spec;
   dimensions = cat.dimensions;
   chunks = length cat.places;
@@ -23,34 +23,34 @@ known_of spec cat overlays = record {
 }
 
 -- a job: its number, what it computes, over which chunks with which overlays, and how far it is
-pub record Held : Type 0 where
+pub record HeldJob : Type 0 where
   pub job : ℕ
   pub spec : Spec
   pub catalogue : Catalogue
   pub overlays : List Overlay
-  pub entry : Entry
+  pub state : JobState
 
-abbrev pub knows : Held → Known
-knows h = known_of h.spec h.catalogue h.overlays
+abbrev pub context_in : HeldJob → JobContext
+context_in h = context_of h.spec h.catalogue h.overlays
 
 -- a job before its first pass
-abbrev pub admitted : ℕ → Spec → Catalogue → List Overlay → Held
-admitted job spec cat overlays =
-    record { job = job; spec = spec; catalogue = cat; overlays = overlays; entry = first_entry (known_of spec cat overlays) }
+abbrev pub admitted_job : ℕ → Spec → Catalogue → List Overlay → HeldJob
+admitted_job job spec cat overlays =
+    record { job = job; spec = spec; catalogue = cat; overlays = overlays; state = first_state (context_of spec cat overlays) }
 
 -- the same job, however far it is
-pub record IsSameJob (before after : Held) : Type 0 where
+pub record IsSameJob (before after : HeldJob) : Type 0 where
   pub job : after.job ≡ before.job
   pub spec : after.spec ≡ before.spec
   pub catalogue : after.catalogue ≡ before.catalogue
   pub overlays : after.overlays ≡ before.overlays
 
 -- what the answer of a turn says, by the entries before and after it: the job goes on and owes a chunk, or it ended
-abbrev pub IsTurned : Known → Entry → Turned → Entry → Type 0
-IsTurned k before Owes after = (turned k before ≡ Goes after) × (owes_any after.owed ≡ true)
-IsTurned k before (Done rounds) after = turned k before ≡ Ends (DoneRun rounds after.values)
-IsTurned k before (Bound bound) after = turned k before ≡ Ends (RoundsRun bound)
+abbrev pub IsTurned : JobContext → JobState → Turned → JobState → Type 0
+IsTurned k before Owes after = (turning_of k before ≡ Goes after) × (owes_any after.owed ≡ true)
+IsTurned k before (Done rounds) after = turning_of k before ≡ Ends (DoneRun rounds after.values)
+IsTurned k before (Bound bound) after = turning_of k before ≡ Ends (RoundsRun bound)
 
 -- a job over a grid without changes: each chunk's content are its edges in the file
 abbrev pub grid_view : Spec → Catalogue → List Edge → JobView
-grid_view spec cat edges = record { known = known_of spec cat []; edges = edges; content_at = base_at cat edges }
+grid_view spec cat edges = record { context = context_of spec cat []; edges = edges; content_at = base_at cat edges }
