@@ -11,41 +11,44 @@ use Rattle.gm_base.specs.declared.copies.Tag.{Tag}
 use Rattle.gm_base.specs.declared.copies.Tag.TheVariants.{Update, Own}
 use Rattle.gm_changes.specs.declared.change.Change.{Change}
 use Rattle.gm_changes.specs.Changes.{ChangesWithin, edges_after}
-use Rattle.gm_changes.specs.Concerns.{lists, may_concern, IsPlaced}
+use Rattle.gm_changes.specs.Concerns.{lists, concerns, may_concern, IsPlaced}
 use Rattle.gm_changes.specs.ConcernsRules.{left_out_by_block}
 use Rattle.gm_label.specs.Catalogues.{Catalogue, sources_at, base_at, IsOver}
 use Rattle.gm_versions.specs.declared.histories.Histories.{Histories}
 use Rattle.gm_versions.specs.declared.versions.Versions.{Versions}
-use Rattle.gm_versions.specs.Lists.{joined}
 use Rattle.gm_versions.specs.Contents.{site_at, changes_at, sources_at_after, next_changes_at, added_at_after, content_after, changes_up_to, changes_near, last_update}
 use Rattle.gm_versions.specs.Snapshots.{Snapshot}
 use Rattle.gm_versions.specs.Keys.{content_of_key, changes_of_tag, IsUpdateUpTo, IsVersionKey, update_of}
 use Rattle.std.proofs.Math.Seq.{take-append_seam}
 use Rattle.gm_versions.specs.ContentsRules.{changes-taken, update_at, concerning-near, base-placed}
-use Rattle.gm_versions.specs.Histories.{History, last_of, up_to, with_update, history_of, with_change}
-use Rattle.gm_versions.specs.Kept.{history_in, IsLogged, IsKeptBefore, AreNotedFor, IsOf}
-use Rattle.gm_versions.proofs.HistorySteps.{or-commuted, history-up_to, history-now, history-last, history-added, history-lists, history-noted}
+use Rattle.gm_versions.specs.Histories.{ChunkHistory, last_of, updates_up_to, history_up_to, IsUpTo, sources_in, with_update, history_of, with_change}
+use Rattle.gm_versions.specs.Kept.{history_in, AreUpTo, IsLogged, IsKeptBefore, AreNotedFor, IsOf, AreSame}
+use Rattle.gm_versions.proofs.HistorySteps.{concerns-same, history-up_to, history-now, history-last, history-lists, history-noted}
 
 -- a chunk's history at a version
 pub at_version : (cat : Catalogue) (versions : Versions) (version c : ℕ) → IsOf cat versions → version ≤ length versions.batches → c < length cat.places
-    → up_to version (history_in versions.histories c) ≡ history_of cat c versions.batches version
+    → history_up_to version (history_in versions.histories c) ≡ history_of cat c versions.batches version
 at_version cat versions version c is small within =
-    ap (up_to version) (is.each c within) ∙ history-up_to cat c versions.batches version (length versions.batches) small
+    ap (history_up_to version) (is.each c within) ∙ history-up_to cat c versions.batches version (length versions.batches) small
 
 pub last-answered : (cat : Catalogue) (versions : Versions) (version c : ℕ) → IsOf cat versions → version ≤ length versions.batches → c < length cat.places
-    → last_of (up_to version (history_in versions.histories c)).updates ≡ last_update cat versions.batches c version
+    → last_of (updates_up_to version (history_in versions.histories c).updates) ≡ last_update cat versions.batches c version
 last-answered cat versions version c is small within =
-    ap (λ (h : History). last_of h.updates) (at_version cat versions version c is small within) ∙ history-last cat c versions.batches version
+    ap (λ (h : ChunkHistory). last_of h.updates) (at_version cat versions version c is small within) ∙ history-last cat c versions.batches version
 
 pub source-answered : (cat : Catalogue) (versions : Versions) (version c source : ℕ) → IsOf cat versions → version ≤ length versions.batches → c < length cat.places
-    → (lists (sources_at cat c) source || lists (joined (up_to version (history_in versions.histories c)).added) source)
+    → lists (sources_at cat c ++ sources_in (history_up_to version (history_in versions.histories c))) source
     ≡ lists (sources_at_after cat c (changes_up_to versions.batches version)) source
 source-answered cat versions version c source is small within =
-    let told = λ (h : History). lists (joined h.added) source in
-    ap (λ (h : History). lists (sources_at cat c) source || told h) (at_version cat versions version c is small within)
-    ∙ or-commuted (lists (sources_at cat c) source) (told (history_of cat c versions.batches version))
-    ∙ sym (list_any-append (λ (s : ℕ). eqb s source) (joined (history_of cat c versions.batches version).added) (sources_at cat c))
+    ap (λ (h : ChunkHistory). lists (sources_at cat c ++ sources_in h) source) (at_version cat versions version c is small within)
     ∙ sym (history-lists cat c versions.batches version source)
+
+pub concerns-answered : (cat : Catalogue) (versions : Versions) (version c : ℕ) (change : Change) → IsOf cat versions → version ≤ length versions.batches → c < length cat.places
+    → concerns cat.dimensions (site_at cat c) (sources_at cat c ++ sources_in (history_up_to version (history_in versions.histories c))) change
+    ≡ concerns cat.dimensions (site_at cat c) (sources_at_after cat c (changes_up_to versions.batches version)) change
+concerns-answered cat versions version c change is small within =
+    concerns-same cat c (sources_at cat c ++ sources_in (history_up_to version (history_in versions.histories c))) _ change
+    (λ u. source-answered cat versions version c u is small within)
 
 -- later updates leave the changes before them as they are
 changes-before : (updates more : List (List Change)) (version : ℕ) → version ≤ length updates → changes_up_to (updates ++ more) version ≡ changes_up_to updates version
@@ -56,7 +59,7 @@ history-before : (cat : Catalogue) (c : ℕ) (updates more : List (List Change))
     → history_of cat c (updates ++ more) version ≡ history_of cat c updates version
 history-before cat c updates more zero small = refl
 history-before cat c updates more (suc version) small =
-    ap (λ (h : History). with_update (suc version) (next_changes_at cat c (changes_up_to (updates ++ more) version) (update_at (updates ++ more) version)) h) (history-before cat c updates more version (omega arith))
+    ap (λ (h : ChunkHistory). with_update (suc version) (next_changes_at cat c (changes_up_to (updates ++ more) version) (update_at (updates ++ more) version)) h) (history-before cat c updates more version (omega arith))
     ∙ ap (λ (cs : List Change). with_update (suc version) (next_changes_at cat c cs (update_at (updates ++ more) version)) (history_of cat c updates version)) (changes-before updates more version (omega arith))
     ∙ ap (λ (batch : List Change). with_update (suc version) (next_changes_at cat c (changes_up_to updates version) batch) (history_of cat c updates version)) (get_or_append_left updates more [] version (omega arith))
 
@@ -68,11 +71,12 @@ history-next cat c updates batch =
     let next : n + 1 ≡ suc n = omega arith in
     let long : suc n ≡ length more = omega (arith, length_push updates batch) in
     let newest : update_at more n ≡ batch = get_or_push updates batch [] n refl in
+    let made = λ (before new : List Change) (h : ChunkHistory). with_update (suc n) (next_changes_at cat c before new) h in
     ap (λ (k : ℕ). fold (with_change cat c k) (history_of cat c updates n) batch) next
     ∙ history-noted cat c updates n batch
-    ∙ sym (ap (λ (h : History). with_update (suc n) (next_changes_at cat c (changes_up_to more n) (update_at more n)) h) (history-before cat c updates (batch ∷ []) n (omega arith))
-    ∙ ap (λ (cs : List Change). with_update (suc n) (next_changes_at cat c cs (update_at more n)) (history_of cat c updates n)) (changes-before updates (batch ∷ []) n (omega arith))
-    ∙ ap (λ (b : List Change). with_update (suc n) (next_changes_at cat c (changes_up_to updates n) b) (history_of cat c updates n)) newest)
+    ∙ sym (ap (λ (h : ChunkHistory). made (changes_up_to more n) (update_at more n) h) (history-before cat c updates (batch ∷ []) n (omega arith))
+    ∙ ap (λ (cs : List Change). made cs (update_at more n) (history_of cat c updates n)) (changes-before updates (batch ∷ []) n (omega arith))
+    ∙ ap (λ (b : List Change). made (changes_up_to updates n) b (history_of cat c updates n)) newest)
     ∙ ap (history_of cat c more) long
 
 -- the ends of a further update's changes are vertices too
@@ -106,7 +110,7 @@ pub kept-next : (cat : Catalogue) (old new : Versions) (noted : Histories) (batc
 kept-next cat old new noted batch is are within_n closed more = record {
   each = λ c within.
       closed c ∙ are.each c within
-      ∙ ap (λ (h : History). fold (with_change cat c (length old.batches + 1)) h batch) (is.each c within)
+      ∙ ap (λ (h : ChunkHistory). fold (with_change cat c (length old.batches + 1)) h batch) (is.each c within)
       ∙ history-next cat c old.batches batch
       ∙ ap (λ (updates : List (List Change)). history_of cat c updates (length updates)) (sym more);
   beyond = λ c past. closed c ∙ are.beyond c past ∙ is.beyond c past;
@@ -114,29 +118,31 @@ kept-next cat old new noted batch is are within_n closed more = record {
 }
 
 -- nothing in the histories is later than the last update
-whole : (cat : Catalogue) (versions : Versions) (q : ℕ) → IsOf cat versions → up_to (length versions.batches) (history_in versions.histories q) ≡ history_in versions.histories q
-whole cat versions q is =
+pub nothing-later : (cat : Catalogue) (versions : Versions) (version : ℕ) → IsOf cat versions → length versions.batches ≤ version → AreUpTo version versions.histories
+nothing-later cat versions version is small q =
     let n = length versions.batches in
-    elim (cases_lt q (length cat.places)) as (λ _. up_to n (history_in versions.histories q) ≡ history_in versions.histories q) [
-      | inl within ↦ ap (up_to n) (is.each q within) ∙ history-now cat q versions.batches n ∙ sym (is.each q within)
-      | inr past ↦ ap (up_to n) (is.beyond q past) ∙ sym (is.beyond q past)
+    elim (cases_lt q (length cat.places)) as (λ _. IsUpTo version (history_in versions.histories q)) [
+      | inl within ↦ ap (history_up_to version) (is.each q within) ∙ history-now cat q versions.batches version n small ∙ sym (is.each q within)
+      | inr past ↦ ap (history_up_to version) (is.beyond q past) ∙ sym (is.beyond q past)
     ]
 
 -- an update that was refused leaves nothing
 pub kept-undone : (cat : Catalogue) (old new : Versions) (noted : Histories) (version : ℕ) → version ≡ length old.batches → IsOf cat old
     → IsKeptBefore (length old.batches + 1) old.histories noted
-    → (IsLogged version noted → (q : ℕ) → history_in new.histories q ≡ up_to version (history_in noted q)) → new.batches ≡ old.batches → IsOf cat new
+    → (IsLogged version noted → (q : ℕ) → history_in new.histories q ≡ history_up_to version (history_in noted q)) → new.batches ≡ old.batches → AreSame old new
 kept-undone cat old new noted version at is kept undone same =
     let later : version < length old.batches + 1 = omega arith in
-    let all : (q : ℕ) → up_to version (history_in old.histories q) ≡ history_in old.histories q =
-    λ q. ap (λ (v : ℕ). up_to v (history_in old.histories q)) at ∙ whole cat old q is in
+    let all = nothing-later cat old version is (omega arith) in
     let logged : IsLogged version noted = kept.logged version later (λ q. inr (all q)) in
-    let back : (q : ℕ) → history_in new.histories q ≡ history_in old.histories q = λ q. undone logged q ∙ kept.before q version later ∙ all q in
-    record {
-      each = λ c within. back c ∙ is.each c within ∙ ap (λ (updates : List (List Change)). history_of cat c updates (length updates)) (sym same);
-      beyond = λ c past. back c ∙ is.beyond c past;
-      ends = subst (λ (updates : List (List Change)). (v : ℕ) → v ≤ length updates → All (ChangesWithin cat.dimensions.n) (changes_up_to updates v)) (sym same) is.ends;
-    }
+    record { updates = same; histories = λ q. undone logged q ∙ kept.before q version later ∙ all q }
+
+-- what stays the same is of the same grid
+pub same-of : (cat : Catalogue) (old new : Versions) → AreSame old new → IsOf cat old → IsOf cat new
+same-of cat old new same is = record {
+  each = λ c within. same.histories c ∙ is.each c within ∙ ap (λ (updates : List (List Change)). history_of cat c updates (length updates)) (sym same.updates);
+  beyond = λ c past. same.histories c ∙ is.beyond c past;
+  ends = subst (λ (updates : List (List Change)). (v : ℕ) → v ≤ length updates → All (ChangesWithin cat.dimensions.n) (changes_up_to updates v)) (sym same.updates) is.ends;
+}
 
 pub update-within : (count : ℕ) (tag : Tag) → IsUpdateUpTo count tag → update_of tag ≤ count
 update-within count (Update t) small = small
@@ -149,8 +155,8 @@ tag-changes updates snapshot_of count (Own job) small = absurd small
 
 -- the updates up to a version that concern a chunk
 pub numbers-answered : (cat : Catalogue) (versions : Versions) (version c : ℕ) → IsOf cat versions → version ≤ length versions.batches → c < length cat.places
-    → (up_to version (history_in versions.histories c)).updates ≡ (history_of cat c versions.batches version).updates
-numbers-answered cat versions version c is small within = ap (λ (h : History). h.updates) (at_version cat versions version c is small within)
+    → updates_up_to version (history_in versions.histories c).updates ≡ (history_of cat c versions.batches version).updates
+numbers-answered cat versions version c is small within = ap (λ (h : ChunkHistory). h.updates) (at_version cat versions version c is small within)
 
 -- their changes, as far as they may concern the chunk, make the chunk's edges those of the version
 pub copied-placed : (cat : Catalogue) (updates : List (List Change)) (version c : ℕ) (raw : List Edge) → All (IsPlaced cat.dimensions (site_at cat c) (sources_at cat c)) raw
@@ -174,8 +180,3 @@ copied-content cat updates key c raw edges snapshot_of names over base =
     ∙ ap (edges_after (changes_at cat c (changes_up_to updates (update_of key.tag)))) base
     ∙ ap (λ (cs : List Change). content_after cat edges cs c) (tag-changes updates snapshot_of (length updates) key.tag names.update)
     ∙ ap (content_after cat edges (changes_of_tag updates snapshot_of key.tag)) (sym names.chunk)
-
-pub added-answered : (cat : Catalogue) (versions : Versions) (version c : ℕ) → IsOf cat versions → version ≤ length versions.batches → c < length cat.places
-    → joined (up_to version (history_in versions.histories c)).added ≡ added_at_after cat c (changes_up_to versions.batches version)
-added-answered cat versions version c is small within =
-    ap (λ (h : History). joined h.added) (at_version cat versions version c is small within) ∙ history-added cat c versions.batches version

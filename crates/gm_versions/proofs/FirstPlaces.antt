@@ -1,10 +1,11 @@
--- Places of sources, looked at before they are believed; and the place of a version among updates.
-use Rattle.std.proofs.Common.{◌≡◌, ℕ, zero, suc, ◌+◌, ◌-◌, ◌<◌, ◌≤◌, true, false, eqb, leb, List, [], ◌∷◌, ◌++◌, length, take, get_or, Option, Some, None, IsSomeAnd, inl, inr, sym, ap, ◌∙◌, refl, subst, arith}
+-- Places of sources, looked at before they are believed.
+use Rattle.std.proofs.Common.{◌≡◌, ℕ, zero, suc, ◌+◌, ◌-◌, ◌<◌, ◌≤◌, true, false, eqb, leb, List, [], ◌∷◌, ◌++◌, length, map, take, get_or, Option, Some, None, IsSomeAnd, inl, inr, sym, ap, ◌∙◌, refl, subst, arith}
 use Rattle.std.proofs.lemmas.Bool.{cases_Bool, cases_lt, or_cases, both_ways, false_from_ne_true, eqb-true, eq-eqb, eqb-false, cond-true, cond-false, le-leb, lt-leb}
-use Rattle.std.proofs.lemmas.List.{get_or-take, get_or_append_left, get_or_push, length-take, length_push}
+use Rattle.std.proofs.lemmas.List.{get_or-take, get_or_append_left, get_or_push, length-take, length_push, take-map}
 use Rattle.std.proofs.lemmas.List.Folds.{list_any_at}
 use Rattle.gm_changes.specs.Concerns.{lists}
-use Rattle.gm_versions.specs.Histories.{last_of, count_up_to, Ascend, HasFirstPlaces}
+use Rattle.gm_versions.specs.declared.history.AddedSource.{AddedSource}
+use Rattle.gm_versions.specs.Histories.{HasFirstPlaces}
 
 record Found (sources : List ℕ) (source : ℕ) : Type 0 where
   place : ℕ
@@ -70,6 +71,13 @@ has-take sources first n has k within =
     (IsSomeAnd-map (first (get_or sources k 0)) (IsNoLater sources k) (λ i. (i ≤ k) × (get_or (take n sources) i 0 ≡ get_or sources k 0))
     (λ i h. let no_later = h.0 in (no_later, get_or-take n sources i 0 (omega arith) ∙ h.1)) (has k (omega arith)))
 
+-- .. with the updates that added them
+pub has-front : (added : List AddedSource) (first : ℕ → Option ℕ) (n : ℕ) → HasFirstPlaces (map (λ (a : AddedSource). a.source) added) first
+    → HasFirstPlaces (map (λ (a : AddedSource). a.source) (take n added)) first
+has-front added first n has =
+    let P : List ℕ → Type 0 = λ sources. HasFirstPlaces sources first in
+    subst P (take-map (λ (a : AddedSource). a.source) n added) (has-take (map (λ (a : AddedSource). a.source) added) first n has)
+
 -- places of other sources stay
 pub has-others : (sources : List ℕ) (first next : ℕ → Option ℕ) (source : ℕ) → HasFirstPlaces sources first → lists sources source ≡ false
     → ((s : ℕ) → (s ≡ source → ⊥) → next s ≡ first s) → HasFirstPlaces sources next
@@ -113,55 +121,3 @@ has-new sources next source has is =
     has-more sources next source has
     (subst (λ (o : Option ℕ). IsSomeAnd o (λ i. (i ≤ length sources) × (get_or (sources ++ source ∷ []) i 0 ≡ source))) (sym is)
     (omega arith, get_or_push sources source 0 (length sources) refl))
-
--- where the updates up to a version end
-pub count-is : (version : ℕ) (updates : List ℕ) (k : ℕ) → k ≤ length updates
-    → ((i : ℕ) → i < k → get_or updates i 0 ≤ version) → ((i : ℕ) → k ≤ i → i < length updates → version < get_or updates i 0)
-    → k ≡ count_up_to version updates
-count-is version [] k within before after = omega arith
-count-is version (u ∷ updates) zero within before after = sym (cond-false (leb u version) _ 0 (lt-leb u version (after 0 (omega arith) (omega arith))))
-count-is version (u ∷ updates) (suc k) within before after =
-    let rest = count-is version updates k (omega arith) (λ i less. before (suc i) (omega arith)) (λ i more less. after (suc i) (omega arith) (omega arith)) in
-    let first = cond-true (leb u version) (1 + count_up_to version updates) 0 (le-leb u version (before 0 (omega arith))) in
-    omega arith
-
--- of ascending updates those in front of one that is no later aren't either, and those behind one that is later are
-pub no-later : (version i j : ℕ) (updates : List ℕ) → Ascend updates → i ≤ j → j < length updates → get_or updates j 0 ≤ version → get_or updates i 0 ≤ version
-no-later version i j updates ascend order within low =
-    elim (cases_lt i j) as (λ _. get_or updates i 0 ≤ version) [
-      | inl less ↦ let step = ascend i j less within in omega arith
-      | inr same ↦ let equal : i ≡ j = omega arith in subst (λ (k : ℕ). get_or updates k 0 ≤ version) (sym equal) low
-    ]
-
-pub later : (version i j : ℕ) (updates : List ℕ) → Ascend updates → i ≤ j → j < length updates → version < get_or updates i 0 → version < get_or updates j 0
-later version i j updates ascend order within high =
-    elim (cases_lt i j) as (λ _. version < get_or updates j 0) [
-      | inl less ↦ let step = ascend i j less within in omega arith
-      | inr same ↦ let equal : i ≡ j = omega arith in subst (λ (k : ℕ). version < get_or updates k 0) equal high
-    ]
-
-pub ascend-take : (n : ℕ) (updates : List ℕ) → Ascend updates → Ascend (take n updates)
-ascend-take n updates ascend i j less within =
-    let long = length-take n updates in
-    let first = get_or-take n updates i 0 (omega arith) in
-    let second = get_or-take n updates j 0 (omega arith) in
-    let step = ascend i j less (omega arith) in
-    omega arith
-
-pub ascend-push : (updates : List ℕ) (number : ℕ) → Ascend updates → last_of updates < number → Ascend (updates ++ number ∷ [])
-ascend-push updates number ascend last i j less within =
-    let long = length_push updates number in
-    let first = get_or_append_left updates (number ∷ []) 0 i (omega arith) in
-    elim (cases_lt j (length updates)) as (λ _. get_or (updates ++ number ∷ []) i 0 < get_or (updates ++ number ∷ []) j 0) [
-      | inl before ↦
-          let second = get_or_append_left updates (number ∷ []) 0 j before in
-          let step = ascend i j less before in omega arith
-      | inr behind ↦
-          let second = get_or_push updates number 0 j (omega arith) in
-          let step : get_or updates i 0 ≤ last_of updates =
-          elim (cases_lt i (length updates - 1)) as (λ _. get_or updates i 0 ≤ last_of updates) [
-            | inl earlier ↦ let up = ascend i (length updates - 1) earlier (omega arith) in omega arith
-            | inr same ↦ let equal : i ≡ length updates - 1 = omega arith in let is = ap (λ (k : ℕ). get_or updates k 0) equal in omega arith
-          ] in
-          omega arith
-    ]

@@ -1,5 +1,5 @@
 -- The changes of the updates that concern a chunk.
-use Rattle.std.proofs.Common.{◌≡◌, ℕ, zero, suc, ◌+◌, ◌-◌, ◌<◌, ◌≤◌, Bool, cond, List, [], ◌∷◌, ◌++◌, length, drop, get_or, append_assoc, append-nil, All, sym, ap, ◌∙◌, refl, arith}
+use Rattle.std.proofs.Common.{◌≡◌, ℕ, zero, suc, ◌+◌, ◌-◌, ◌<◌, ◌≤◌, Bool, true, false, cond, List, [], ◌∷◌, ◌++◌, length, drop, get_or, append_assoc, append-nil, All, sym, ap, ◌∙◌, refl, arith}
 use Rattle.std.specs.List.{filter, flat_map}
 use Rattle.std.proofs.lemmas.List.{at_drop_more}
 use Rattle.std.proofs.lemmas.List.Elements.{filter-append, All-nil, All-push, All-weaker}
@@ -8,7 +8,7 @@ use Rattle.gm_changes.specs.declared.change.Change.{Change}
 use Rattle.gm_label.specs.Catalogues.{Catalogue}
 use Rattle.gm_versions.specs.Contents.{changes_near, is_some_change, update_changes_at}
 use Rattle.gm_versions.specs.ContentsRules.{update_at}
-use Rattle.gm_versions.specs.Histories.{History, history_of, with_update}
+use Rattle.gm_versions.specs.Histories.{history_of}
 
 -- the changes of updates by their numbers, counted from 1
 abbrev pub batches_of : List (List Change) → List ℕ → List Change
@@ -21,21 +21,17 @@ batches-push updates numbers version =
     ∙ ap (λ (k : ℕ). batches_of updates numbers ++ (update_at updates k ++ [])) before
     ∙ ap (λ (cs : List Change). batches_of updates numbers ++ cs) (append-nil (update_at updates version))
 
-with-update : (updates : List (List Change)) (next : List Change) (h : History) (version : ℕ)
-    → batches_of updates (with_update (suc version) next h).updates
-    ≡ cond (is_some_change next) (batches_of updates h.updates ++ update_at updates version) (batches_of updates h.updates)
-with-update updates [] h version = refl
-with-update updates (c ∷ next) h version = batches-push updates h.updates version
-
 -- a chunk's history tells which updates these are
 pub near-history : (cat : Catalogue) (updates : List (List Change)) (c version : ℕ)
     → batches_of updates (history_of cat c updates version).updates ≡ changes_near cat updates c version
 near-history cat updates c zero = refl
 near-history cat updates c (suc version) =
-    let next = update_changes_at cat updates c version in
+    let h = history_of cat c updates version in
     let batch = update_at updates version in
-    with-update updates next (history_of cat c updates version) version
-    ∙ ap (λ (cs : List Change). cond (is_some_change next) (cs ++ batch) cs) (near-history cat updates c version)
+    let at : (b : Bool) → batches_of updates (cond b (h.updates ++ suc version ∷ []) h.updates)
+    ≡ cond b (batches_of updates h.updates ++ batch) (batches_of updates h.updates) = elim [ true ↦ batches-push updates h.updates version | false ↦ refl ] in
+    let some = is_some_change (update_changes_at cat updates c version) in
+    at some ∙ ap (λ (cs : List Change). cond some (cs ++ batch) cs) (near-history cat updates c version)
 
 -- one update more is gathered
 pub gathered-next : (keeps : Change → Bool) (updates : List (List Change)) (numbers : List ℕ) (k number : ℕ) (start into more : List Change) → k < length numbers
@@ -59,8 +55,8 @@ numbers_within cat updates c (suc version) =
     let Fits = λ (number : ℕ). (1 ≤ number) × (number ≤ suc version) in
     let h = history_of cat c updates version in
     let before = All-weaker (λ number. (1 ≤ number) × (number ≤ version)) Fits (λ number fits. let small = fits.1 in (fits.0, omega (arith, small))) h.updates (numbers_within cat updates c version) in
-    let at : (next : List Change) → All Fits (with_update (suc version) next h).updates = elim [
-      | [] ↦ before
-      | change ∷ next ↦ All-push Fits h.updates (suc version) before (omega arith, omega arith)
+    let at : (b : Bool) → All Fits (cond b (h.updates ++ suc version ∷ []) h.updates) = elim [
+      | true ↦ All-push Fits h.updates (suc version) before (omega arith, omega arith)
+      | false ↦ before
     ] in
-    at (update_changes_at cat updates c version)
+    at (is_some_change (update_changes_at cat updates c version))

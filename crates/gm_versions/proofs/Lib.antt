@@ -1,4 +1,3 @@
-pub mod FlatLists
 pub mod HistorySteps
 pub mod FirstPlaces
 pub mod Logging

@@ -1,4 +1,3 @@
-pub mod Lists
 pub mod Contents
 pub mod Snapshots
 pub mod Keys

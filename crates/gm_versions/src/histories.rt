@@ -1,18 +1,18 @@
 //! The histories of the chunks that some change concerns.
 
-ghost use Rattle.std.specs.Prelude.{◌≡◌, ℕ, ◌-◌, ◌*◌, ◌<◌, ◌≤◌, ◌==◌, if◌then◌else◌, ◌++◌, length, option_to_list, All, IfOk, OnOk};
+ghost use Rattle.std.specs.Prelude.{◌≡◌, ℕ, ◌<◌, ◌≤◌, ◌==◌, if◌then◌else◌, ◌++◌, length, map, option_to_list, All, IfOk, OnOk};
 ghost use Rattle.std.specs.Ordering.{nat_cmp};
 ghost use Rattle.std.specs.BTreeMap.{IsOrdered};
-ghost use Rattle.gm_versions.specs.Kept.{history_in, IsLogged, IsLoggedAt, IsKeptBefore, IsNotedFor, AreNotedFor};
-ghost use Rattle.gm_base.specs.Graph.{edge};
-ghost use Rattle.gm_label.specs.Catalogues.{place_at, IsLastOf};
-ghost use Rattle.gm_base.specs.Dimensions.{block_of};
-ghost use Rattle.gm_versions.specs.Histories.{no_history, last_of, up_to, with_touch, with_change, overlay_in, overlays_in};
-ghost use Rattle.gm_changes.specs.Concerns.{lists};
+ghost use Rattle.gm_label.specs.Catalogues.{sources_at};
+ghost use Rattle.gm_changes.specs.Concerns.{lists, concerns};
 ghost use Rattle.gm_changes.specs.Changes.{ChangesWithin};
-ghost use Rattle.gm_versions.specs.Lists.{joined};
+ghost use Rattle.gm_versions.specs.Contents.{site_at};
+ghost use Rattle.gm_versions.specs.Histories.{no_history, last_of, updates_up_to, history_up_to, sources_in, with_touch, with_change};
+ghost use Rattle.gm_versions.specs.Histories.{overlay_in, overlays_in};
+ghost use Rattle.gm_versions.specs.Kept.{history_in, AreUpTo, IsLogged, IsLoggedAt, IsKeptBefore, IsNotedFor, AreNotedFor};
 
-use crate::changed::Changed;
+use crate::history::{AddedSource, History};
+use crate::reached::{added_source, reach};
 use gm_base::{Edge, Key, Memory, Sources, Tag};
 use gm_changes::Change;
 use gm_label::{Catalogue, Overlay, Overlays};
@@ -23,19 +23,19 @@ use std::collections::BTreeMap;
 #[derive(Drop)]
 pub(crate) struct Histories {
     alloc: Global,
-    changed: BTreeMap<u32, Changed>,
-    touched: Vec<u32>,
+    by_chunk: BTreeMap<u32, History>,
+    undo_log: Vec<u32>,
 }
 
-/// The number behind that of the last chunk of a block.
-pub(crate) fn end_of_block(cat: &Catalogue, block: u32) -> u32
-    requires { block < cat.now.dimensions.parts * cat.now.dimensions.parts }
-    ensures some { 1 ≤ result }
-    ensures last { IsLastOf cat.now block (result - 1) }
+/// The sources alone.
+fn sources_of(alloc: Global, added: &[AddedSource]) -> Result<Sources, Memory>
+    ensures { IfOk result (λ sources. sources ≡ map (λ a. a.source) added.now) }
 {
-    let last = cat.last_of(block);
-    prove!(last < cat.chunks());
-    last + 1
+    let mut sources = Sources::new(alloc);
+    for a in added {
+        sources.push(a.source)?;
+    }
+    Ok(sources)
 }
 
 /// Adds what a version sees of a chunk, if an update up to the version concerns it.
@@ -44,20 +44,25 @@ fn push_overlay(
     alloc: Global,
     version: u32,
     chunk: u32,
-    history: &Changed,
+    history: &History,
 ) -> Result<(), Memory>
     ensures { OnOk result (overlays.new ≡ overlays.old ++ overlay_in version chunk history.now) }
 {
-    let last = history.last_up_to(version);
+    let last = last_of(history.updates_up_to(version));
     if last != 0 {
         let tag = Tag::Update(last);
-        let added = Vec::from_slice(alloc, history.added_up_to(version))?;
-        overlays.push(Overlay {
-            key: Key { chunk, tag },
-            added: Sources::from_vec(added),
-        })?;
+        let added = sources_of(alloc, history.added_up_to(version))?;
+        let key = Key { chunk, tag };
+        overlays.push(Overlay { key, added })?;
     }
     Ok(())
+}
+
+/// The last of the updates, and 0 where there is none.
+pub(crate) fn last_of(updates: &[u32]) -> u32
+    ensures { result ≡ last_of updates.now }
+{
+    updates.last().copied().unwrap_or(0)
 }
 
 impl Histories {
@@ -67,77 +72,52 @@ impl Histories {
     {
         Histories {
             alloc,
-            changed: BTreeMap::new(alloc),
-            touched: Vec::new(alloc),
-        }
-    }
-
-    /// The last update up to a version that concerns a chunk, and 0 where none does.
-    pub(crate) fn last_up_to(&self, version: u32, chunk: u32) -> u32
-        ensures { result ≡ last_of (up_to version (history_in self.now chunk)).updates }
-    {
-        match self.changed.get(&chunk) {
-            Some(history) => history.last_up_to(version),
-            None => 0,
+            by_chunk: BTreeMap::new(alloc),
+            undo_log: Vec::new(alloc),
         }
     }
 
     /// The updates up to a version that concern a chunk, ascending.
     pub(crate) fn updates_up_to(&self, version: u32, chunk: u32) -> &[u32]
-        ensures { result.now ≡ (up_to version (history_in self.now chunk)).updates }
+        ensures { result.now ≡ updates_up_to version (history_in self.now chunk).updates }
     {
-        match self.changed.get(&chunk) {
+        match self.by_chunk.get(&chunk) {
             Some(history) => history.updates_up_to(version),
-            None => &[],
-        }
-    }
-
-    /// The sources that updates up to a version added to a chunk.
-    pub(crate) fn added_up_to(&self, version: u32, chunk: u32) -> &[u32]
-        ensures { result.now ≡ joined (up_to version (history_in self.now chunk)).added }
-    {
-        match self.changed.get(&chunk) {
-            Some(history) => history.added_up_to(version),
             None => &[],
         }
     }
 
     /// Whether an update up to a version added a source to a chunk.
     pub(crate) fn has_added(&self, version: u32, chunk: u32, source: u32) -> bool
-        ensures { result ≡ lists (joined (up_to version (history_in self.now chunk)).added) source }
+        ensures { result ≡ lists (sources_in (history_up_to version (history_in self.now chunk))) source }
     {
-        match self.changed.get(&chunk) {
+        match self.by_chunk.get(&chunk) {
             Some(history) => history.has_added(version, source),
             None => false,
         }
     }
 
-    /// Notes a change of an update for a chunk, and which source it adds there. It doesn't log the chunk.
-    fn put(&mut self, chunk: u32, number: u32, added: Option<u32>) -> Result<(), Memory>
-        requires { 1 ≤ number }
-        ensures ok { OnOk result ((q : ℕ) → history_in self.new q ≡ (if q == chunk then with_touch number (option_to_list added) (history_in self.old q) else history_in self.old q)) }
-        ensures before { (q version : ℕ) → version < number → up_to version (history_in self.new q) ≡ up_to version (history_in self.old q) }
-        ensures others { (q : ℕ) → (q ≡ chunk → ⊥) → history_in self.new q ≡ history_in self.old q }
-        ensures touched { self.new.touched.items ≡ self.old.touched.items }
+    /// Whether a change that comes next after the updates up to a version concerns a chunk.
+    pub(crate) fn concerns(
+        &self,
+        cat: &Catalogue,
+        version: u32,
+        chunk: u32,
+        change: Change,
+    ) -> bool
+        requires chunk { chunk < length cat.now.places }
+        requires ends { ChangesWithin cat.now.dimensions.n change }
+        ensures { result ≡ concerns cat.now.dimensions (site_at cat.now chunk)
+            (sources_at cat.now chunk ++ sources_in (history_up_to version (history_in self.now chunk))) change }
     {
-        match self.changed.get_mut(&chunk) {
-            Some(history) => history.note(number, added),
-            None => {
-                let mut history = Changed::new(self.alloc);
-                history.note(number, added)?;
-                self.changed.insert(chunk, history)?;
-                Ok(())
+        let here = cat.chunk(chunk).block;
+        match change {
+            Change::Add(edge) => cat.is_last(chunk) && cat.shape().block_of(&edge) == here,
+            Change::Cut { from, to } => {
+                let weight = 0;
+                cat.shape().block_of(&Edge { from, to, weight }) == here
+                    && (cat.lists(chunk, from) || self.has_added(version, chunk, from))
             }
-        }
-    }
-
-    /// Takes back what later updates than this version brought to a chunk.
-    fn forget_after(&mut self, version: u32, chunk: u32)
-        ensures at { (q : ℕ) → history_in self.new q ≡ (if q == chunk then up_to version (history_in self.old q) else history_in self.old q) }
-        ensures touched { self.new.touched.items ≡ self.old.touched.items }
-    {
-        if let Some(history) = self.changed.get_mut(&chunk) {
-            history.forget_after(version);
         }
     }
 
@@ -145,19 +125,31 @@ impl Histories {
     fn last(&self, chunk: u32) -> u32
         ensures { result ≡ last_of (history_in self.now chunk).updates }
     {
-        match self.changed.get(&chunk) {
+        match self.by_chunk.get(&chunk) {
             Some(history) => history.last(),
             None => 0,
         }
     }
 
-    /// Whether an update added a source to a chunk.
-    fn adds(&self, chunk: u32, source: u32) -> bool
-        ensures { result ≡ lists (joined (history_in self.now chunk).added) source }
+    /// Notes a change of an update for a chunk, and which source it adds there. It doesn't log the chunk.
+    fn put(&mut self, chunk: u32, number: u32, added: Option<u32>) -> Result<(), Memory>
+        requires { AreUpTo number self.old }
+        ensures ok { OnOk result ((q : ℕ) → history_in self.new q
+            ≡ (if q == chunk then with_touch number (option_to_list added) (history_in self.old q) else history_in self.old q)) }
+        ensures before { (q version : ℕ) → version < number
+            → history_up_to version (history_in self.new q) ≡ history_up_to version (history_in self.old q) }
+        ensures up_to { AreUpTo number self.new }
+        ensures others { (q : ℕ) → (q ≡ chunk → ⊥) → history_in self.new q ≡ history_in self.old q }
+        ensures undo_log { self.new.undo_log.items ≡ self.old.undo_log.items }
     {
-        match self.changed.get(&chunk) {
-            Some(history) => history.adds(source),
-            None => false,
+        match self.by_chunk.get_mut(&chunk) {
+            Some(history) => history.note(number, added),
+            None => {
+                let mut history = History::new(self.alloc);
+                history.note(number, added)?;
+                self.by_chunk.insert(chunk, history)?;
+                Ok(())
+            }
         }
     }
 
@@ -168,79 +160,55 @@ impl Histories {
         ensures here { OnOk result (IsLoggedAt number chunk self.new) }
     {
         if self.last(chunk) < number {
-            self.touched.push(chunk)?;
+            self.undo_log.push(chunk)?;
         }
         Ok(())
     }
 
     /// Notes a change of an update for a chunk, and which source it adds there.
     fn note(&mut self, chunk: u32, number: u32, added: Option<u32>) -> Result<(), Memory>
-        requires { 1 ≤ number }
-        ensures ok { OnOk result ((q : ℕ) → history_in self.new q ≡ (if q == chunk then with_touch number (option_to_list added) (history_in self.old q) else history_in self.old q)) }
+        requires { AreUpTo number self.old }
+        ensures ok { OnOk result ((q : ℕ) → history_in self.new q
+            ≡ (if q == chunk then with_touch number (option_to_list added) (history_in self.old q) else history_in self.old q)) }
         ensures kept { IsKeptBefore number self.old self.new }
     {
         self.log(chunk, number)?;
         self.put(chunk, number, added)
     }
 
-    /// Notes a cut for a chunk of its block, if it concerns the chunk: the chunk's label lists the source, or an edge was added from it.
-    fn note_cut_at(
+    /// Notes a change of an update for a chunk, if it concerns the chunk.
+    fn note_at(
         &mut self,
         cat: &Catalogue,
         number: u32,
         chunk: u32,
-        from: u32,
-        to: u32,
+        change: Change,
     ) -> Result<(), Memory>
-        requires number { 1 ≤ number }
+        requires up_to { AreUpTo number self.old }
         requires chunk { chunk < length cat.now.places }
-        requires block { block_of cat.now.dimensions (edge from to 0) ≡ (place_at cat.now chunk).block }
-        ensures ok { OnOk result ((q : ℕ) → history_in self.new q ≡ (if q == chunk then with_change cat.now q number (history_in self.old q) (Change.Cut from to) else history_in self.old q)) }
+        requires ends { ChangesWithin cat.now.dimensions.n change }
+        ensures ok { OnOk result ((q : ℕ) → history_in self.new q
+            ≡ (if q == chunk then with_change cat.now q number (history_in self.old q) change else history_in self.old q)) }
         ensures kept { IsKeptBefore number self.old self.new }
     {
-        if cat.lists(chunk, from) || self.adds(chunk, from) {
-            self.note(chunk, number, None)?;
+        if self.concerns(cat, number, chunk, change) {
+            self.note(chunk, number, added_source(change))?;
         }
         Ok(())
     }
 
-    /// Notes a cut for each chunk that it concerns.
-    fn note_cut(&mut self, cat: &Catalogue, number: u32, from: u32, to: u32) -> Result<(), Memory>
-        requires number { 1 ≤ number }
-        requires ends { ChangesWithin cat.now.dimensions.n (Change.Cut from to) }
-        ensures ok { OnOk result (IsNotedFor cat.now number (Change.Cut from to) self.old self.new) }
-        ensures kept { IsKeptBefore number self.old self.new }
-    {
-        let weight = 0;
-        let block = cat.shape().block_of(&Edge { from, to, weight });
-        for chunk in cat.first_of(block)..end_of_block(cat, block) {
-            self.note_cut_at(cat, number, chunk, from, to)?;
-        }
-        Ok(())
-    }
-
-    /// Notes an edge that is added, for the last chunk of its block.
-    fn note_add(&mut self, cat: &Catalogue, number: u32, edge: Edge) -> Result<(), Memory>
-        requires number { 1 ≤ number }
-        requires ends { ChangesWithin cat.now.dimensions.n (Change.Add edge) }
-        ensures ok { OnOk result (IsNotedFor cat.now number (Change.Add edge) self.old self.new) }
-        ensures kept { IsKeptBefore number self.old self.new }
-    {
-        let last = cat.last_of(cat.shape().block_of(&edge));
-        self.note(last, number, Some(edge.from))
-    }
-
-    /// Notes a change for each chunk that it concerns.
+    /// Notes a change of an update for each chunk that it concerns.
     fn note_change(&mut self, cat: &Catalogue, number: u32, change: Change) -> Result<(), Memory>
-        requires number { 1 ≤ number }
+        requires up_to { AreUpTo number self.old }
         requires ends { ChangesWithin cat.now.dimensions.n change }
         ensures ok { OnOk result (IsNotedFor cat.now number change self.old self.new) }
         ensures kept { IsKeptBefore number self.old self.new }
     {
-        match change {
-            Change::Add(edge) => self.note_add(cat, number, edge),
-            Change::Cut { from, to } => self.note_cut(cat, number, from, to),
+        let reached = reach(cat, change);
+        for chunk in reached.start..reached.end {
+            self.note_at(cat, number, chunk, change)?;
         }
+        Ok(())
     }
 
     /// Notes the changes of an update, one after the other.
@@ -250,7 +218,7 @@ impl Histories {
         number: u32,
         batch: &[Change],
     ) -> Result<(), Memory>
-        requires number { 1 ≤ number }
+        requires up_to { AreUpTo number self.old }
         requires ends { All (ChangesWithin cat.now.dimensions.n) batch.now }
         ensures ok { OnOk result (AreNotedFor cat.now number batch.now self.old self.new) }
         ensures kept { IsKeptBefore number self.old self.new }
@@ -261,29 +229,40 @@ impl Histories {
         Ok(())
     }
 
-    /// Takes back what later updates than this version brought.
-    pub(crate) fn undo(&mut self, version: u32)
-        ensures { IsLogged version self.old → (q : ℕ) → history_in self.new q ≡ up_to version (history_in self.old q) }
+    /// Takes back what later updates than this version brought to a chunk.
+    fn roll_back_at(&mut self, version: u32, chunk: u32)
+        ensures at { (q : ℕ) → history_in self.new q
+            ≡ (if q == chunk then history_up_to version (history_in self.old q) else history_in self.old q) }
+        ensures undo_log { self.new.undo_log.items ≡ self.old.undo_log.items }
     {
-        while let Some(chunk) = self.touched.pop() {
-            self.forget_after(version, chunk);
+        if let Some(history) = self.by_chunk.get_mut(&chunk) {
+            history.roll_back(version);
+        }
+    }
+
+    /// Takes back what later updates than this version brought.
+    pub(crate) fn roll_back(&mut self, version: u32)
+        ensures { IsLogged version self.old → (q : ℕ) → history_in self.new q ≡ history_up_to version (history_in self.old q) }
+    {
+        while let Some(chunk) = self.undo_log.pop() {
+            self.roll_back_at(version, chunk);
         }
     }
 
     /// Keeps what was noted.
-    pub(crate) fn close(&mut self)
+    pub(crate) fn commit(&mut self)
         ensures { (q : ℕ) → history_in self.new q ≡ history_in self.old q }
     {
-        self.touched.clear();
+        self.undo_log.clear();
     }
 
     /// What a version sees of each chunk that an update up to the version concerns, by their numbers.
     pub(crate) fn overlays(&self, alloc: Global, version: u32) -> Result<Overlays, Memory>
-        ensures value { IfOk result (λ overlays. overlays ≡ overlays_in version self.now.changed.entries) }
-        ensures ordered { IsOrdered nat_cmp self.now.changed }
+        ensures value { IfOk result (λ overlays. overlays ≡ overlays_in version self.now.by_chunk.entries) }
+        ensures ordered { IsOrdered nat_cmp self.now.by_chunk }
     {
         let mut overlays = Overlays::new(alloc);
-        for (chunk, history) in &self.changed {
+        for (chunk, history) in &self.by_chunk {
             push_overlay(&mut overlays, alloc, version, *chunk, history)?;
         }
         Ok(overlays)

@@ -2,15 +2,14 @@
 #![tactic(auto)]
 
 mod batches;
-mod changed;
 pub mod examples;
 mod histories;
+mod history;
 pub mod laws;
-mod lists;
 mod reached;
 #[cfg(test)]
 mod tests;
 mod versions;
 
-pub use reached::reach;
+pub use reached::{added_source, reach};
 pub use versions::Versions;

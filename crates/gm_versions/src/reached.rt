@@ -1,13 +1,36 @@
 //! Which chunks a change may concern.
 
+ghost use Rattle.std.specs.Prelude.{◌≡◌, ◌*◌, ◌<◌, ◌≤◌, ◌-◌, [], ◌∷◌, option_to_list};
 ghost use Rattle.gm_changes.specs.Changes.{ChangesWithin};
+ghost use Rattle.gm_label.specs.Catalogues.{IsLastOf};
+ghost use Rattle.gm_versions.specs.Contents.{added_sources};
 ghost use Rattle.gm_versions.specs.Reaches.{IsReachOf};
 
-use crate::histories::end_of_block;
 use gm_base::Edge;
 use gm_changes::Change;
 use gm_label::Catalogue;
 use std::ops::Range;
+
+/// The source of an edge that a change adds.
+pub fn added_source(change: Change) -> Option<u32>
+    ensures { option_to_list result ≡ added_sources (change ∷ []) }
+{
+    match change {
+        Change::Add(edge) => Some(edge.from),
+        Change::Cut { .. } => None,
+    }
+}
+
+/// The number behind that of the last chunk of a block.
+fn end_of_block(cat: &Catalogue, block: u32) -> u32
+    requires { block < cat.now.dimensions.parts * cat.now.dimensions.parts }
+    ensures some { 1 ≤ result }
+    ensures last { IsLastOf cat.now block (result - 1) }
+{
+    let last = cat.last_of(block);
+    prove!(last < cat.chunks());
+    last + 1
+}
 
 /// The chunks that a change may concern, whatever their sources are: the last chunk of an added edge's block, and the chunks of a
 /// cut's block.

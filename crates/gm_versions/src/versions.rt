@@ -7,14 +7,14 @@ ghost use Rattle.gm_changes.specs.Changes.{ChangesWithin, edges_after};
 ghost use Rattle.gm_changes.specs.Concerns.{lists, concerns, may_concern};
 ghost use Rattle.gm_label.specs.Catalogues.{Catalogue as Known};
 ghost use Rattle.gm_label.specs.Overlays.{AreOverlays};
-ghost use Rattle.gm_versions.specs.Contents.{site_at, sources_at_after, added_at_after, changes_up_to, changes_near};
+ghost use Rattle.gm_versions.specs.Contents.{site_at, sources_at_after, changes_up_to, changes_near};
 ghost use Rattle.gm_versions.specs.Snapshots.{version_of, key_of, overlays_of};
 ghost use Rattle.gm_versions.specs.Keys.{IsVersionKey, update_of};
-ghost use Rattle.gm_versions.specs.Kept.{IsOf, IsKeptBefore, AreNotedFor, IsCopy};
+ghost use Rattle.gm_versions.specs.Kept.{IsOf, AreSame, AreUpTo, IsKeptBefore, AreNotedFor, IsCopy};
 
 use crate::batches::Batches;
-use crate::histories::Histories;
-use gm_base::{ChunkCopy, Edge, Edges, Key, Memory, Tag};
+use crate::histories::{Histories, last_of};
+use gm_base::{ChunkCopy, Edges, Key, Memory, Tag};
 use gm_changes::{Change, Changes, apply, gather};
 use gm_label::{Catalogue, Overlays, Raw};
 use std::alloc::Global;
@@ -23,26 +23,28 @@ use std::alloc::Global;
 /// they added there. Nothing is kept of chunks that no update concerns.
 #[derive(Drop)]
 pub struct Versions {
+    alloc: Global,
     batches: Batches,
     histories: Histories,
 }
 
-/// Adds the changes of the next update, and notes for each chunk which of them concern it.
+/// Notes for each chunk which changes of the next update concern it, and then adds the update.
 fn add_batch(
     batches: &mut Batches,
     histories: &mut Histories,
     cat: &Catalogue,
-    batch: &[Change],
+    batch: Changes,
 ) -> Result<(), Memory>
     requires few { length batches.old < MAX_CHANGES }
-    requires ends { All (ChangesWithin cat.now.dimensions.n) batch.now }
-    ensures noted { OnOk result (AreNotedFor cat.now (length batches.old + 1) batch.now histories.old histories.new) }
+    requires up_to { AreUpTo (length batches.old + 1) histories.old }
+    requires ends { All (ChangesWithin cat.now.dimensions.n) batch }
+    ensures noted { OnOk result (AreNotedFor cat.now (length batches.old + 1) batch histories.old histories.new) }
     ensures kept { IsKeptBefore (length batches.old + 1) histories.old histories.new }
-    ensures ok { OnOk result (batches.new ≡ batches.old ++ batch.now ∷ []) }
+    ensures ok { OnOk result (batches.new ≡ batches.old ++ batch ∷ []) }
     ensures err { OnErr result (batches.new ≡ batches.old) }
 {
     let number = batches.len() + 1;
-    histories.note_all(cat, number, batch)?;
+    histories.note_all(cat, number, batch.as_slice())?;
     batches.push(batch)
 }
 
@@ -63,6 +65,7 @@ impl Versions {
         ensures catalogue { (cat : Known) → IsOf cat result }
     {
         Versions {
+            alloc,
             batches: Batches::new(alloc),
             histories: Histories::new(alloc),
         }
@@ -76,23 +79,36 @@ impl Versions {
         self.batches.len()
     }
 
-    /// Adds the next update. A refusal leaves all updates as they were.
+    /// Adds the next update. A refusal leaves all as it was.
     pub fn update(&mut self, cat: &Catalogue, batch: &[Change]) -> Result<(), Memory>
         requires catalogue { IsOf cat.now self.old }
         requires few { length self.old.batches < MAX_CHANGES }
         requires ends { All (ChangesWithin cat.now.dimensions.n) batch.now }
         ensures ok { OnOk result (self.new.batches ≡ self.old.batches ++ batch.now ∷ []) }
-        ensures err { OnErr result (self.new.batches ≡ self.old.batches) }
+        ensures err { OnErr result (AreSame self.old self.new) }
+        ensures catalogue { IsOf cat.now self.new }
+    {
+        let batch = Vec::from_slice(self.alloc, batch)?;
+        self.take_update(cat, Changes::from_vec(batch))
+    }
+
+    /// The same, of changes that are handed over: they aren't copied.
+    pub fn take_update(&mut self, cat: &Catalogue, batch: Changes) -> Result<(), Memory>
+        requires catalogue { IsOf cat.now self.old }
+        requires few { length self.old.batches < MAX_CHANGES }
+        requires ends { All (ChangesWithin cat.now.dimensions.n) batch }
+        ensures ok { OnOk result (self.new.batches ≡ self.old.batches ++ batch ∷ []) }
+        ensures err { OnErr result (AreSame self.old self.new) }
         ensures catalogue { IsOf cat.now self.new }
     {
         let version = self.batches.len();
         match add_batch(&mut self.batches, &mut self.histories, cat, batch) {
             Ok(()) => {
-                self.histories.close();
+                self.histories.commit();
                 Ok(())
             }
             Err(refusal) => {
-                self.histories.undo(version);
+                self.histories.roll_back(version);
                 Err(refusal)
             }
         }
@@ -106,7 +122,7 @@ impl Versions {
         ensures value { result ≡ key_of cat.now (version_of self.now.batches version) chunk }
         ensures names { IsVersionKey (length self.now.batches) chunk result }
     {
-        let tag = Tag::Update(self.histories.last_up_to(version, chunk));
+        let tag = Tag::Update(last_of(self.histories.updates_up_to(version, chunk)));
         Key { chunk, tag }
     }
 
@@ -120,24 +136,6 @@ impl Versions {
         cat.lists(chunk, source) || self.histories.has_added(version, chunk, source)
     }
 
-    /// The sources that the updates up to a version added to a chunk, in their order.
-    pub fn added(&self, cat: &Catalogue, version: u32, chunk: u32) -> &[u32]
-        requires catalogue { IsOf cat.now self.now }
-        requires version { version ≤ length self.now.batches }
-        requires chunk { chunk < length cat.now.places }
-        ensures { result.now ≡ added_at_after cat.now chunk (changes_up_to self.now.batches version) }
-    {
-        self.histories.added_up_to(version, chunk)
-    }
-
-    /// The changes of the updates up to a version, in order.
-    pub fn changes(&self, version: u32) -> &[Change]
-        requires { version ≤ length self.now.batches }
-        ensures { result.now ≡ changes_up_to self.now.batches version }
-    {
-        self.batches.up_to(version)
-    }
-
     /// Whether a change that comes next after the updates up to a version concerns a chunk.
     pub fn concerns(&self, cat: &Catalogue, version: u32, chunk: u32, change: Change) -> bool
         requires catalogue { IsOf cat.now self.now }
@@ -146,15 +144,7 @@ impl Versions {
         requires ends { ChangesWithin cat.now.dimensions.n change }
         ensures { result ≡ concerns cat.now.dimensions (site_at cat.now chunk) (sources_at_after cat.now chunk (changes_up_to self.now.batches version)) change }
     {
-        let here = cat.chunk(chunk).block;
-        match change {
-            Change::Add(edge) => cat.is_last(chunk) && cat.shape().block_of(&edge) == here,
-            Change::Cut { from, to } => {
-                let weight = 0;
-                cat.shape().block_of(&Edge { from, to, weight }) == here
-                    && self.has_source(cat, version, chunk, from)
-            }
-        }
+        self.histories.concerns(cat, version, chunk, change)
     }
 
     /// Adds to the list the changes of those updates up to a version that concern a chunk, as far as they may concern it whatever

@@ -12,3 +12,7 @@ loop-change-preserved c =
       beyond = λ q past. c.in_ok-note_change.ensures.ok.beyond q past ∙ c.loop-change.invariant.beyond q past;
       kept = kept-then c.args.number c.args.self.now c.loop-change.self c.note_change.new.self c.loop-change.invariant.kept c.note_change.ensures.kept;
     }
+
+pub returns-in_err-note_change-clause-kept : goal.returns-in_err-note_change-clause-kept
+returns-in_err-note_change-clause-kept c =
+    kept-then c.args.number c.args.self.now c.loop-change.self c.note_change.new.self c.loop-change.invariant.kept c.note_change.ensures.kept

@@ -4,4 +4,4 @@ use Rattle.gm_versions.proofs.histories.Histories.overlays.Given as goal
 
 -- the overlays so far, and those of the chunks that are left
 abbrev pub invariant-loop-chunk : goal.invariant-loop-chunk
-invariant-loop-chunk l = l.overlays ++ overlays_in l.version l.chunk-iterator ≡ overlays_in l.version l.self.changed.entries
+invariant-loop-chunk l = l.overlays ++ overlays_in l.version l.chunk-iterator ≡ overlays_in l.version l.self.by_chunk.entries

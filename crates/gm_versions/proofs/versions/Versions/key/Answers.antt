@@ -6,13 +6,14 @@ use Rattle.gm_versions.specs.Keys.{IsVersionKey}
 use Rattle.gm_versions.specs.Snapshots.{version_of}
 use Rattle.gm_versions.specs.ContentsRules.{last-all_taken}
 use Rattle.gm_versions.specs.SnapshotsRules.{key-of_version}
+use Rattle.gm_versions.specs.Histories.{last_of}
 use Rattle.gm_versions.proofs.Answering.{last-answered}
 use Rattle.gm_versions.proofs.versions.Versions.key.Goals as goal
 
 pub returns-clause-value : goal.returns-clause-value
 returns-clause-value c =
     ap (λ (t : ℕ). let key : Key = record { chunk = c.args.chunk; tag = Update t } in key)
-    (c.last_up_to.ensures ∙ last-answered c.args.cat.now c.args.self.now c.args.version c.args.chunk c.requires.catalogue c.requires.version c.requires.chunk
+    (c.last_of.ensures ∙ ap last_of c.updates_up_to.ensures ∙ last-answered c.args.cat.now c.args.self.now c.args.version c.args.chunk c.requires.catalogue c.requires.version c.requires.chunk
     ∙ sym (last-all_taken c.args.cat.now c.args.self.now.batches c.args.chunk c.args.version c.requires.version))
 
 pub returns-clause-names : goal.returns-clause-names

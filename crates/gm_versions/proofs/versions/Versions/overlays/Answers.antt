@@ -15,7 +15,7 @@ use Rattle.gm_versions.proofs.versions.Versions.overlays.Goals as goal
 pub returns-clause-value : goal.returns-clause-value
 returns-clause-value c =
     let same = overlays-answered c.args.cat.now c.args.self.now c.args.version c.requires.catalogue c.requires.version c.overlays.ensures.ordered in
-    IfOk-weaker _ (λ (overlays : List Overlay). overlays ≡ overlays_in c.args.version c.args.self.now.histories.changed.entries)
+    IfOk-weaker _ (λ (overlays : List Overlay). overlays ≡ overlays_in c.args.version c.args.self.now.histories.by_chunk.entries)
     (λ (overlays : List Overlay). overlays ≡ overlays_of c.args.cat.now (version_of c.args.self.now.batches c.args.version))
     (λ overlays is. is ∙ same) c.overlays.ensures.value
 
