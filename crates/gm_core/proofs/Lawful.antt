@@ -18,8 +18,8 @@ use Rattle.gm_active.specs.BitsRules.{is_in_past}
 use Rattle.gm_active.specs.NeedsRules.{length-needed_chunks, length-counted_chunks}
 use Rattle.gm_work.specs.declared.phase.Phase.{Phase}
 use Rattle.gm_work.specs.declared.phase.Phase.TheVariants.{Counting, Round}
-use Rattle.gm_work.specs.Entries.{Turning, owes_any}
-use Rattle.gm_work.specs.Entries.Turning.{Goes, Ends}
+use Rattle.gm_work.specs.JobStates.{Turning, owes_any}
+use Rattle.gm_work.specs.JobStates.Turning.{Goes, Ends}
 use Rattle.gm_work.specs.Views.{JobView, StandingTurn, needed_in, IsTurnedWell}
 use Rattle.gm_work.specs.Views.StandingTurn.{StandsAt, EndsWith}
 use Rattle.gm_work.specs.Weights.{IsLeftBy}
@@ -34,12 +34,12 @@ marked_within marks c marked =
       | inr past ↦ absurd (true≢false (sym marked ∙ is_in_past marks c past))
     ]
 
-length-needed : (d : JobView) (phase : Phase) → length (needed_in d phase) ≡ d.known.chunks
-length-needed d (Counting r) = length-counted_chunks d.known.chunks d.known.sources_at
-length-needed d (Round r) = length-needed_chunks d.known.dimensions _ _ d.known.chunks d.known.block_at d.known.sources_at
+length-needed : (d : JobView) (phase : Phase) → length (needed_in d phase) ≡ d.context.chunks
+length-needed d (Counting r) = length-counted_chunks d.context.chunks d.context.sources_at
+length-needed d (Round r) = length-needed_chunks d.context.dimensions _ _ d.context.chunks d.context.block_at d.context.sources_at
 
 -- what is needed is a chunk
-pub needed_within : (d : JobView) (phase : Phase) (c : ℕ) → is_in (needed_in d phase) c ≡ true → c < d.known.chunks
+pub needed_within : (d : JobView) (phase : Phase) (c : ℕ) → is_in (needed_in d phase) c ≡ true → c < d.context.chunks
 needed_within d phase c needed =
     let below = marked_within (needed_in d phase) c needed in
     let long = length-needed d phase in

@@ -10,8 +10,8 @@ use Rattle.gm_jobs.specs.declared.script.Line.{Line}
 use Rattle.gm_jobs.specs.StatedJobs.{jobs_of}
 use Rattle.gm_kernel.specs.Runs.{lone_run}
 use Rattle.gm_active.specs.Bits.{is_in}
-use Rattle.gm_work.specs.Entries.{Entry, Turning, first_entry, passing, phases_left, turned}
-use Rattle.gm_work.specs.Entries.Turning.{Goes, Ends}
+use Rattle.gm_work.specs.JobStates.{JobState, Turning, first_state, state_after_pass, phases_left, turning_of}
+use Rattle.gm_work.specs.JobStates.Turning.{Goes, Ends}
 use Rattle.gm_work.specs.Views.{Standing, StandingTurn, owed_at, first_standing, with_passed, IsMidRound, turn_at}
 use Rattle.gm_work.specs.Views.StandingTurn.{StandsAt, EndsWith}
 use Rattle.gm_work.specs.Weights.{weight_left}
@@ -26,10 +26,10 @@ pub record JobWorks : Type 0 where
   pub blocks : ℕ
   pub block_of : ℕ → ℕ
   -- a job's entry before its first pass, whether an entry owes a chunk, and what a pass of a chunk over edges and a turn make of it
-  pub admitted : ℕ → Entry
-  pub owes : ℕ → Entry → ℕ → Bool
-  pub pass : ℕ → ℕ → List Edge → Entry → Entry
-  pub turn : ℕ → Entry → Turning
+  pub admitted_job : ℕ → JobState
+  pub owes : ℕ → JobState → ℕ → Bool
+  pub pass : ℕ → ℕ → List Edge → JobState → JobState
+  pub turn : ℕ → JobState → Turning
   -- the same by where a job stands: at first, what it owes, and after a turn
   pub first_at : ℕ → Standing
   pub owes_at : ℕ → Standing → ℕ → Bool
@@ -44,12 +44,12 @@ pub record JobWorks : Type 0 where
   pub left : ℕ → Standing → ℕ
 
 -- an entry that owes some chunk
-pub record OwesSome (w : JobWorks) (n : ℕ) (e : Entry) : Type 0 where
+pub record OwesSome (w : JobWorks) (n : ℕ) (e : JobState) : Type 0 where
   pub chunk : ℕ
   pub owed : w.owes n e chunk ≡ true
 
--- a job turned, by where it stands and by its entry: it is midway and owes a chunk, or it has ended as its lone run
-abbrev pub IsTurnedAs : JobWorks → (ℕ → Standing → Entry → Type 0) → ℕ → StandingTurn → Turning → Type 0
+-- a job turning_of, by where it stands and by its entry: it is midway and owes a chunk, or it has ended as its lone run
+abbrev pub IsTurnedAs : JobWorks → (ℕ → Standing → JobState → Type 0) → ℕ → StandingTurn → Turning → Type 0
 IsTurnedAs w IsMidway n (StandsAt s) (Goes e) = IsMidway n s e × OwesSome w n e
 IsTurnedAs w IsMidway n (EndsWith outcome) (Ends other) = (outcome ≡ w.lone n) × (other ≡ w.lone n)
 IsTurnedAs w IsMidway n (StandsAt s) (Ends outcome) = ⊥
@@ -61,18 +61,18 @@ HasLeft w n passes (StandsAt s) = w.left n s ≡ passes
 HasLeft w n passes (EndsWith outcome) = passes ≡ 0
 
 -- What holds of the jobs of a script. Midway is what its layer says of a job, where it stands and its entry: it is in the middle of a phase.
-pub record Laws (w : JobWorks) (IsMidway : ℕ → Standing → Entry → Type 0) : Type 0 where
+pub record Laws (w : JobWorks) (IsMidway : ℕ → Standing → JobState → Type 0) : Type 0 where
   -- before its first pass a job is midway, and stands where it does at first
-  pub begins : (n : ℕ) → n < w.jobs → IsMidway n (w.first_at n) (w.admitted n)
+  pub begins : (n : ℕ) → n < w.jobs → IsMidway n (w.first_at n) (w.admitted_job n)
   -- a pass of an owed chunk, over edges that are the same graph as the content of the job's key of it, keeps the job midway, with this chunk passed too
-  pub passes : (n c : ℕ) (s : Standing) (e : Entry) (edges : List Edge) → IsMidway n s e → w.owes n e c ≡ true
+  pub passes : (n c : ℕ) (s : Standing) (e : JobState) (edges : List Edge) → IsMidway n s e → w.owes n e c ≡ true
       → IsSameGraph edges (w.content_of (w.key_at n s c)) → IsMidway n (with_passed s c) (w.pass n c edges e)
   -- a turn leads where the standing says: midway and owing a chunk, or to the end, as the lone run
-  pub turns : (n : ℕ) (s : Standing) (e : Entry) → IsMidway n s e → IsTurnedAs w IsMidway n (w.turn_at n s) (w.turn n e)
+  pub turns : (n : ℕ) (s : Standing) (e : JobState) → IsMidway n s e → IsTurnedAs w IsMidway n (w.turn_at n s) (w.turn n e)
   -- where a job stands determines its entry
-  pub determined : (n : ℕ) (s : Standing) (e f : Entry) → IsMidway n s e → IsMidway n s f → e ≡ f
+  pub determined : (n : ℕ) (s : Standing) (e f : JobState) → IsMidway n s e → IsMidway n s f → e ≡ f
   -- where a job stands tells what its entry owes
-  pub owed : (n c : ℕ) (s : Standing) (e : Entry) → IsMidway n s e → w.owes n e c ≡ w.owes_at n s c
+  pub owed : (n c : ℕ) (s : Standing) (e : JobState) → IsMidway n s e → w.owes n e c ≡ w.owes_at n s c
   -- after a pass the same chunks are owed but for the passed one
   pub owed_after : (n c x : ℕ) (s : Standing) → w.owes_at n (with_passed s c) x ≡ (w.owes_at n s x && not (c == x))
   -- what is owed wasn't passed
@@ -86,7 +86,7 @@ pub record Laws (w : JobWorks) (IsMidway : ℕ → Standing → Entry → Type 0
   -- a pass of an owed chunk leaves one less
   pub left_by_passes : (n c : ℕ) (s : Standing) → w.owes_at n s c ≡ true → w.left n (with_passed s c) + 1 ≡ w.left n s
   -- a turn leaves as many, and none were left where it ends the job
-  pub left_by_turns : (n : ℕ) (s : Standing) (e : Entry) → IsMidway n s e → HasLeft w n (w.left n s) (w.turn_at n s)
+  pub left_by_turns : (n : ℕ) (s : Standing) (e : JobState) → IsMidway n s e → HasLeft w n (w.left n s) (w.turn_at n s)
 
 -- the work of the jobs of a script over a grid
 unfoldable pub works_of : Catalogue → List Edge → List Line → JobWorks
@@ -95,21 +95,21 @@ works_of cat edges entries = record {
   chunks = length cat.places;
   blocks = cat.dimensions.parts * cat.dimensions.parts;
   block_of = λ c. (place_at cat c).block;
-  admitted = λ n. first_entry (job_view cat edges entries n).known;
+  admitted_job = λ n. first_state (job_view cat edges entries n).context;
   owes = λ n e c. is_in e.owed c;
-  pass = λ n c copied e. passing (job_view cat edges entries n).known e c copied;
-  turn = λ n e. turned (job_view cat edges entries n).known e;
+  pass = λ n c copied e. state_after_pass (job_view cat edges entries n).context e c copied;
+  turn = λ n e. turning_of (job_view cat edges entries n).context e;
   first_at = λ n. first_standing (job_view cat edges entries n);
   owes_at = λ n s c. is_in (owed_at (job_view cat edges entries n) s) c;
   turn_at = λ n s. turn_at (job_view cat edges entries n) s;
-  lone = λ n. let d = job_view cat edges entries n in lone_run d.known.spec d.known.dimensions.n d.edges;
+  lone = λ n. let d = job_view cat edges entries n in lone_run d.context.spec d.context.dimensions.n d.edges;
   key_at = λ n s c. job_key cat entries n c;
   content_of = content_in_script cat edges entries;
-  phases = λ n. let d = job_view cat edges entries n in phases_left d.known.spec (first_standing d).phase;
+  phases = λ n. let d = job_view cat edges entries n in phases_left d.context.spec (first_standing d).phase;
   left = λ n s. weight_left (job_view cat edges entries n) (λ c. 1) s;
 }
 
 -- a job of the script is in the middle of a round of its lone run
-pub record IsJobMidRound (cat : Catalogue) (edges : List Edge) (entries : List Line) (n : ℕ) (s : Standing) (e : Entry) : Type 0 where
+pub record IsJobMidRound (cat : Catalogue) (edges : List Edge) (entries : List Line) (n : ℕ) (s : Standing) (e : JobState) : Type 0 where
   pub number : n < length (jobs_of entries)
   pub mid : IsMidRound (job_view cat edges entries n) s e

@@ -2,7 +2,7 @@ use Rattle.std.specs.Prelude.{List, Bool}
 use Rattle.std.proofs.Common.{ap, subst, arith}
 use Rattle.gm_base.specs.Graph.{IsSameGraph}
 use Rattle.gm_active.specs.Bits.{is_in}
-use Rattle.gm_work.specs.Entries.{turned}
+use Rattle.gm_work.specs.JobStates.{turning_of}
 use Rattle.gm_work.specs.Views.{turn_at}
 use Rattle.gm_work.specs.Weights.{weight_left}
 use Rattle.gm_versions.specs.Snapshots.{overlays_of}
@@ -28,8 +28,8 @@ returns c cat edges entries over =
             mid = c.passes.ensures (view n) s e x copied here.mid owes (subst (IsSameGraph copied) (content cat edges entries n x here.number) same);
           };
       turns = λ n s e here.
-          turned_as cat edges entries n (turn_at (view n) s) (turned (view n).known e) here.number (c.turns.ensures (view n) s e (job_is_cut cat edges entries n over here.number) here.mid);
-      determined = λ n s e f one other. c.determined.ensures.entry (view n) s e f one.mid other.mid;
+          turned_as cat edges entries n (turn_at (view n) s) (turning_of (view n).context e) here.number (c.turns.ensures (view n) s e (job_is_cut cat edges entries n over here.number) here.mid);
+      determined = λ n s e f one other. c.determined.ensures.state (view n) s e f one.mid other.mid;
       owed = λ n x s e here. ap (λ (marks : List Bool). is_in marks x) (c.determined.ensures.owed (view n) s e here.mid);
       owed_after = λ n x y s. owed.after (view n) s x y;
       owed_is_new = λ n x s owes. unpassed _ _ (owed.new (view n) s x) owes;
