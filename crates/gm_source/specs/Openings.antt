@@ -80,6 +80,10 @@ pub record OpensBy {T : Type 0} (asked most size : ℕ) (name : List ℕ) (old n
 abbrev pub ReadsJust : ℕ → DepotState → DepotState → Type 0
 ReadsJust count old new = new.reads ≡ counted_times count old.reads
 
+-- .. at most so often
+abbrev pub ReadsUpTo : ℕ → DepotState → DepotState → Type 0
+ReadsUpTo most old new = new.reads ≤ old.reads + most
+
 abbrev pub AreBytes : List ℕ → Type 0
 AreBytes bytes = All (λ byte. byte < 256) bytes
 

@@ -9,7 +9,7 @@ ghost use Rattle.gm_grid.specs.GridBytes.{counts_in, counts_of_index, index_end,
 ghost use Rattle.gm_grid.specs.GridRefusals.{refusal_by_head, refusal_by_index, refusal_by_chunks};
 ghost use Rattle.gm_label.specs.Chunks.{chunks_of};
 ghost use Rattle.gm_label.specs.Catalogues.{unlabelled};
-ghost use Rattle.gm_source.specs.Openings.{OpensBy, ReadsJust, IsTold, HasHead, HasIndex, HasLabelled, IsPlanned, IsRefusedByIndex, IsRefusedByChunks, IsCatalogueOf, file_reads, opening_reads};
+ghost use Rattle.gm_source.specs.Openings.{OpensBy, ReadsJust, ReadsUpTo, IsTold, HasHead, HasIndex, HasLabelled, IsPlanned, IsRefusedByIndex, IsRefusedByChunks, IsCatalogueOf, file_reads, opening_reads};
 
 use crate::OpenError;
 use crate::labelling::label_plan;
@@ -161,7 +161,7 @@ pub fn open_grid<D: Depot>(
     ensures opens { OpensBy 1 (2 + MAX_CHUNKS) chunk_size name.now (D.state depot.old) (D.state depot.new) result }
     ensures read { IfOk result (λ cat. ReadsJust (opening_reads cat.places) (D.state depot.old) (D.state depot.new)) }
     ensures few_reads { IfSome (D.state depot.old).files (λ held. IfSome (get held name.now)
-        (λ bytes. (D.state depot.new).reads ≤ (D.state depot.old).reads + file_reads chunk_size bytes)) }
+        (λ bytes. ReadsUpTo (file_reads chunk_size bytes) (D.state depot.old) (D.state depot.new))) }
 {
     refused_where_no_grid();
     grid_reads_back();
