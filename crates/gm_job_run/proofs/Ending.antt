@@ -1,5 +1,5 @@
 -- How a job that was run ends.
-use Rattle.std.specs.Prelude.{◌≡◌, ℕ, ◌+◌, ◌≤◌, List, Some, None, refl}
+use Rattle.std.specs.Prelude.{◌≡◌, ℕ, ◌+◌, ◌≤◌, List, Some, None}
 use Rattle.std.proofs.Common.{inr, sym, subst, arith}
 use Rattle.gm_job_run.specs.declared.job_run.End.{End}
 use Rattle.gm_job_run.specs.declared.job_run.End.TheVariants.{Done as DoneEnd, Bound as BoundEnd}

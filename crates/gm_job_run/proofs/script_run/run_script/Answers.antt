@@ -65,7 +65,7 @@ run_line-requires-clause-over g c =
 
 pub returns-in_err-line-in-Job-clause-few : goal.returns-in_err-line-in-Job-clause-few
 returns-in_err-line-in-Job-clause-few g c =
-    few_at _ _ _ _ _ _ _ _ c.loop-entry.versions _ c.in-Job.name c.in-Job.spec c.in-Job.own c.len-number.result c.loop-entry.invariant.2
+    few_at _ _ (g.D.Depot.state c.run_line.new.depot) _ _ _ _ _ c.loop-entry.versions _ c.in-Job.name c.in-Job.spec c.in-Job.own c.len-number.result c.loop-entry.invariant.2
     (entry_is (into_iter_items c.next.new.self) c.in-Some.ensures.steps.0 c.in-Job.is) (c.len-number.ensures ∙ c.loop-entry.lines.ok.0)
     (few_for (g.D.Depot.state c.loop-entry.depot) (g.D.Depot.state c.run_line.new.depot) c.args.grid.now (job_at c.loop-entry.versions c.len-number.result c.in-Job.name c.in-Job.spec c.in-Job.own) _ _ c.in_ok-cat-in-Job.ensures.cases c.run_line.ensures.few)
 
@@ -77,7 +77,7 @@ returns-in_err-push-in-Job-clause-frame g c = frame_next _ _ _ c.loop-entry.inva
 
 pub returns-in_err-push-in-Job-clause-few : goal.returns-in_err-push-in-Job-clause-few
 returns-in_err-push-in-Job-clause-few g c =
-    few_at _ _ _ _ _ _ _ _ c.loop-entry.versions _ c.in-Job.name c.in-Job.spec c.in-Job.own c.len-number.result c.loop-entry.invariant.2
+    few_at _ _ (g.D.Depot.state c.run_line.new.depot) _ _ _ _ _ c.loop-entry.versions _ c.in-Job.name c.in-Job.spec c.in-Job.own c.len-number.result c.loop-entry.invariant.2
     (entry_is (into_iter_items c.next.new.self) c.in-Some.ensures.steps.0 c.in-Job.is) (c.len-number.ensures ∙ c.loop-entry.lines.ok.0)
     (few_for (g.D.Depot.state c.loop-entry.depot) (g.D.Depot.state c.run_line.new.depot) c.args.grid.now (job_at c.loop-entry.versions c.len-number.result c.in-Job.name c.in-Job.spec c.in-Job.own) _ _ c.in_ok-cat-in-Job.ensures.cases c.run_line.ensures.few)
 
