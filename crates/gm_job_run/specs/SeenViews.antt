@@ -1,14 +1,25 @@
 -- What a job that is run sees of a grid's file.
-use Rattle.std.specs.Prelude.{◌≡◌}
+use Rattle.std.specs.Prelude.{◌≡◌, ℕ, List, Result}
+use Rattle.gm_base.specs.declared.job.Spec.{Spec}
+use Rattle.gm_outside.specs.States.{DepotState}
+use Rattle.gm_grid.specs.GridBytes.{edges_in}
 use Rattle.gm_label.specs.Catalogues.{Catalogue}
 use Rattle.gm_work.specs.Held.{Held}
+use Rattle.gm_work.specs.Views.{JobView}
 use Rattle.gm_private.specs.OwnChanges.{IsSightOver}
-use Rattle.gm_core.specs.SeenViews.{Seen, IsSeenOver, overlays_seen}
+use Rattle.gm_core.specs.SeenViews.{Seen, IsSeenOver, overlays_seen, seen_view}
+use Rattle.gm_job_run.specs.declared.job_run.End.{End}
+use Rattle.gm_job_run.specs.declared.job_run.Stop.{Stop}
 use Rattle.gm_job_run.specs.declared.view.View.{View}
+use Rattle.gm_job_run.specs.JobRuns.{StaysUnderWay, EndsFor, Carries}
 
 -- the updates so far, and what of them and of its own changes the job sees
 abbrev pub seen_in : View → Seen
 seen_in view = record { updates = view.versions.now.batches; sight = view.own.now }
+
+-- a job over what the view shows of the edges that these bytes of its grid tell
+abbrev pub shown_view : View → Spec → Catalogue → List ℕ → JobView
+shown_view view spec cat bytes = seen_view spec cat (edges_in bytes) (seen_in view)
 
 -- the view is of a grid with this catalogue
 abbrev pub IsViewOf : Catalogue → View → Type 0
@@ -18,3 +29,15 @@ IsViewOf cat view = IsSightOver cat view.versions.now view.own.now
 pub record Sees (h : Held) (seen : Seen) : Type 0 where
   pub overlays : h.overlays ≡ overlays_seen h.catalogue seen
   pub over : IsSeenOver h.catalogue.dimensions.n seen
+
+-- over what a view shows, a job stays under way
+abbrev pub StaysIn : View → DepotState → DepotState → Held → Held → Type 0
+StaysIn view old new before after = StaysUnderWay old new view.name.now (seen_in view) before after
+
+-- .. ends so
+abbrev pub EndsIn : View → DepotState → DepotState → Held → Held → End → Type 0
+EndsIn view old new before after end = EndsFor old new view.name.now (seen_in view) before after end
+
+-- .. and is carried on by a call
+abbrev pub CarriesIn : {T : Type 0} → View → DepotState → DepotState → Held → Held → Result T Stop → Type 0
+CarriesIn view old new before after result = Carries old new view.name.now (seen_in view) before after result

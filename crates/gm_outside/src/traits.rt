@@ -42,6 +42,7 @@ pub trait Depot: Drop {
         ensures size { IfSome (state self.old).files (λ files. IfOk result (λ size. size ≡ size_of files name.now)) }
         ensures cause { CountsFaults (state self.old) (state self.new) result }
         ensures calm { IsTrue (state self.old).calm → IsErrOf result Trouble.Failed → ⊥ }
+        ensures unread { (state self.new).reads ≡ (state self.old).reads }
         ensures frame { OnlyReads 1 0 (state self.old) (state self.new) };
 
     /// Fills `into` with the bytes of a file from `pos` on.

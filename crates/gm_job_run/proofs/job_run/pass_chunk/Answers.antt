@@ -63,14 +63,14 @@ returns-in_err-copy-clause-carries g c =
       same = same_job work;
       chunk = within_chunks (length work.catalogue.places) c.args.chunk _ c.requires.within (stop_here _ _ _ here c.in_err-copy.ensures.stop);
       stops = λ bytes first told way.
-          let told_there = subst (λ (cat : Catalogue). TellsGrid (g.D.Depot.files c.args.depot.now) name cat bytes) (sym c.catalogue.ensures) told in
+          let told_there = subst (λ (cat : Catalogue). TellsGrid (g.D.Depot.state c.args.depot.now).files name cat bytes) (sym c.catalogue.ensures) told in
           let d = view_over work seen bytes in
           let reads_of = pass_reads work.catalogue in
           let needed = under_way-needed d reads_of first work.entry c.args.chunk _ c.determined.ensures.owed c.requires.owed c.owed_chunks.ensures.needed way in
-          let read_here = subst (λ (n : ℕ). g.D.Depot.reads c.fetch_copy.new.depot ≤ g.D.Depot.reads c.args.depot.now + pass_reads c.catalogue.result.now n) here c.fetch_copy.ensures.frame.few_reads in
+          let read_here = subst (λ (n : ℕ). (g.D.Depot.state c.fetch_copy.new.depot).reads ≤ (g.D.Depot.state c.args.depot.now).reads + pass_reads c.catalogue.result.now n) here c.fetch_copy.ensures.frame.reads in
           let few = under_way-few d reads_of first work.entry c.args.chunk _ _ c.determined.ensures.owed c.weight_is_left.ensures.passes c.requires.owed way
           (few_here _ _ work.catalogue _ c.args.chunk c.catalogue.ensures read_here) in
-          (stops_by d (g.D.Depot.calm c.args.depot.now) c.args.chunk _ needed (stop_here _ _ _ here c.in_err-copy.ensures.stop) (c.in_err-copy.ensures.told_stop bytes told_there), few);
+          (stops_by d (g.D.Depot.state c.args.depot.now).calm c.args.chunk _ needed (stop_here _ _ _ here c.in_err-copy.ensures.stop) (c.in_err-copy.ensures.told_stop bytes told_there), few);
       faults = c.in_err-copy.ensures.faults;
       frame = (_, c.fetch_copy.ensures.frame);
     }))
@@ -95,13 +95,13 @@ returns-clause-under_way g c bytes first told way =
     let work = c.args.work.now in
     let seen = seen_in c.args.view.now in
     let here = at_chunk work.overlays c.args.chunk c.key-key.result c.key-key.ensures in
-    let told_there = subst (λ (cat : Catalogue). TellsGrid (g.D.Depot.files c.args.depot.now) c.args.view.now.name.now cat bytes) (sym c.catalogue.ensures) told in
+    let told_there = subst (λ (cat : Catalogue). TellsGrid (g.D.Depot.state c.args.depot.now).files c.args.view.now.name.now cat bytes) (sym c.catalogue.ensures) told in
     let key = c.in_ok-copy.ensures.key in
     chunk_passed work c.pass.new.self seen bytes first c.args.chunk _ _ _ c.in_ok-copy.copy.key c.in_ok-copy.copy.edges c.passes.ensures c.determined.ensures.owed c.weight_is_left.ensures.passes
     c.catalogue.ensures c.requires.owed (key ∙ c.key-key.ensures) (ap (λ (k : Key). k.chunk) key ∙ here) c.pass.ensures
     (c.in_ok-copy.ensures.told bytes told_there ∙ ap (chunk_seen c.catalogue.result.now (edges_in bytes) seen) here)
-    (subst (λ (n : ℕ). g.D.Depot.reads c.fetch_copy.new.depot ≡ counted_times (pass_reads c.catalogue.result.now n) (g.D.Depot.reads c.args.depot.now)) here c.in_ok-copy.ensures.read) way
+    (subst (λ (n : ℕ). (g.D.Depot.state c.fetch_copy.new.depot).reads ≡ counted_times (pass_reads c.catalogue.result.now n) (g.D.Depot.state c.args.depot.now).reads) here c.in_ok-copy.ensures.read) way
 
 pub returns-clause-carries : goal.returns-clause-carries
 returns-clause-carries g c =
-    carries-done g.D.Depot _ _ c.args.view.now.name.now (seen_in c.args.view.now) _ _ _ (same_job-entry _ _ _ c.pass.ensures) c.in_ok-copy.ensures.faults (_, c.fetch_copy.ensures.frame)
+    carries-done _ _ c.args.view.now.name.now (seen_in c.args.view.now) _ _ _ (same_job-entry _ _ _ c.pass.ensures) c.in_ok-copy.ensures.faults (_, c.fetch_copy.ensures.frame)

@@ -2,8 +2,7 @@ use Rattle.std.specs.Prelude.{◌+◌, ◌≤◌}
 use Rattle.std.specs.Arc.{arc_value}
 use Rattle.std.proofs.Common.{◌≡◌, ℕ, List, sym, ap, ◌∙◌, subst}
 use Rattle.gm_base.specs.declared.job.Spec.{Spec}
-use Rattle.gm_outside.specs.declared.traits.Depot as Depot
-use Rattle.gm_outside.specs.Calls.{depot_change}
+use Rattle.gm_outside.specs.States.{DepotState}
 use Rattle.gm_grid.specs.GridBytes.{edges_in}
 use Rattle.gm_label.specs.Catalogues.{Catalogue}
 use Rattle.gm_source.specs.Fetches.{TellsGrid}
@@ -24,12 +23,12 @@ sight_of versions job version = record { job = job.number; version = version; ow
 abbrev sees : Versions → Sight → Seen
 sees versions sight = record { updates = versions.batches; sight = sight }
 
-few_by : {D : Type 0} (g : Depot.Ghosts D) (old new : D) (name : List ℕ) (cat : Catalogue) (spec : Spec) (versions : Versions) (s t : Sight) → s ≡ t
-    → ((bytes : List ℕ) → TellsGrid (g.files old) name cat bytes → g.reads new ≤ g.reads old + run_weight (seen_view spec cat (edges_in bytes) (sees versions s)) (pass_reads cat))
-    → (bytes : List ℕ) → TellsGrid (g.files old) name cat bytes → g.reads new ≤ g.reads old + run_weight (seen_view spec cat (edges_in bytes) (sees versions t)) (pass_reads cat)
-few_by g old new name cat spec versions s t same few =
-    subst (λ (sight : Sight). (bytes : List ℕ) → TellsGrid (g.files old) name cat bytes
-    → g.reads new ≤ g.reads old + run_weight (seen_view spec cat (edges_in bytes) (sees versions sight)) (pass_reads cat)) same few
+few_by : (old new : DepotState) (name : List ℕ) (cat : Catalogue) (spec : Spec) (versions : Versions) (s t : Sight) → s ≡ t
+    → ((bytes : List ℕ) → TellsGrid old.files name cat bytes → new.reads ≤ old.reads + run_weight (seen_view spec cat (edges_in bytes) (sees versions s)) (pass_reads cat))
+    → (bytes : List ℕ) → TellsGrid old.files name cat bytes → new.reads ≤ old.reads + run_weight (seen_view spec cat (edges_in bytes) (sees versions t)) (pass_reads cat)
+few_by old new name cat spec versions s t same few =
+    subst (λ (sight : Sight). (bytes : List ℕ) → TellsGrid old.files name cat bytes
+    → new.reads ≤ old.reads + run_weight (seen_view spec cat (edges_in bytes) (sees versions sight)) (pass_reads cat)) same few
 
 pub run_job-requires-clause-view : goal.run_job-requires-clause-view
 run_job-requires-clause-view g c =
@@ -42,21 +41,21 @@ run_job-requires-clause-view g c =
 pub returns-in_err-outcome-clause-few : goal.returns-in_err-outcome-clause-few
 returns-in_err-outcome-clause-few g c =
     let versions = c.args.versions.now in
-    few_by g.D.Depot c.args.depot.now c.run_job.new.depot c.args.grid.now (arc_value c.args.cat) c.args.job.spec versions c.new-own.result _
+    few_by (g.D.Depot.state c.args.depot.now) (g.D.Depot.state c.run_job.new.depot) c.args.grid.now (arc_value c.args.cat) c.args.job.spec versions c.new-own.result _
     (c.new-own.ensures ∙ ap (sight_of versions c.args.job) c.count-version.ensures.value) c.run_job.ensures.few
 
 pub returns-clause-few : goal.returns-clause-few
 returns-clause-few g c =
     let versions = c.args.versions.now in
-    few_by g.D.Depot c.args.depot.now c.run_job.new.depot c.args.grid.now (arc_value c.args.cat) c.args.job.spec versions c.new-own.result _
+    few_by (g.D.Depot.state c.args.depot.now) (g.D.Depot.state c.run_job.new.depot) c.args.grid.now (arc_value c.args.cat) c.args.job.spec versions c.new-own.result _
     (c.new-own.ensures ∙ ap (sight_of versions c.args.job) c.count-version.ensures.value) c.run_job.ensures.few
 
 pub returns-clause-ends : goal.returns-clause-ends
 returns-clause-ends g c =
     let versions = c.args.versions.now in
-    subst (λ (sight : Sight). (bytes : List ℕ) → TellsGrid (g.D.Depot.files c.args.depot.now) c.args.grid.now (arc_value c.args.cat) bytes
+    subst (λ (sight : Sight). (bytes : List ℕ) → TellsGrid (g.D.Depot.state c.args.depot.now).files c.args.grid.now (arc_value c.args.cat) bytes
     → JobEnds (seen_view c.args.job.spec (arc_value c.args.cat) (edges_in bytes) (sees versions sight)) (pass_reads (arc_value c.args.cat))
-    (depot_change g.D.Depot c.args.depot.now c.run_job.new.depot) c.in_ok-outcome.outcome)
+    (g.D.Depot.state c.args.depot.now) (g.D.Depot.state c.run_job.new.depot) c.in_ok-outcome.outcome)
     (c.new-own.ensures ∙ ap (sight_of versions c.args.job) c.count-version.ensures.value) c.in_ok-outcome.ensures.ends
 
 pub run_job-requires-clause-over : goal.run_job-requires-clause-over
