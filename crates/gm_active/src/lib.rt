@@ -12,4 +12,4 @@ mod word;
 
 pub use active::Active;
 pub use chunk_set::ChunkSet;
-pub use scheduling::{find_counted, find_needed};
+pub use scheduling::{owed, owed_in_counting};

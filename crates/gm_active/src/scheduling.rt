@@ -187,7 +187,7 @@ fn add_with_added(cat: &Catalogue, overlays: &[Overlay], into: &mut ChunkSet)
 
 /// Makes `into` the chunks that a job needs in a round with these active vertices: those with a source of which one is active, or,
 /// for a two-way kernel, in whose block's column a vertex is active. It takes no memory.
-pub fn find_needed(
+pub fn owed(
     cat: &Catalogue,
     overlays: &Overlays,
     active: &Active,
@@ -205,7 +205,7 @@ pub fn find_needed(
 }
 
 /// Makes `into` the chunks that a job needs where it counts out-degrees: those with a source. It takes no memory.
-pub fn find_counted(cat: &Catalogue, overlays: &Overlays, into: &mut ChunkSet)
+pub fn owed_in_counting(cat: &Catalogue, overlays: &Overlays, into: &mut ChunkSet)
     requires chunks { length into.old ≡ length cat.now.places }
     requires overlays { AreOverlays cat.now overlays.now }
     ensures { into.new ≡ counted_chunks_under cat.now overlays.now }

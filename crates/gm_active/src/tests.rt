@@ -2,7 +2,7 @@
 
 ghost use Rattle.std.specs.Prelude.{◌≡◌, length, IfOk};
 
-use crate::{Active, ChunkSet, find_counted, find_needed};
+use crate::{Active, ChunkSet, owed, owed_in_counting};
 use gm_base::{Edge, Key, Shape, Sources, Tag};
 use gm_label::{Catalogue, Label, Overlay, Overlays};
 use std::alloc::Global;
@@ -81,9 +81,9 @@ fn chunks_by_row_and_by_column(rt: HostRuntime) -> Result<(), Fail> {
     active.mark(1);
     let mut chunks = ChunkSet::new(rt.alloc(), 4)?;
     chunks.add(2);
-    find_needed(&cat, &none, &active, false, &mut chunks);
+    owed(&cat, &none, &active, false, &mut chunks);
     assert!(rt; chunks.is_empty());
-    find_needed(&cat, &none, &active, true, &mut chunks);
+    owed(&cat, &none, &active, true, &mut chunks);
     assert_eq!(rt; chunks.count(), 1);
     assert!(rt; chunks.has(0));
     Ok(())
@@ -103,10 +103,10 @@ fn chunks_of_an_added_source(rt: HostRuntime) -> Result<(), Fail> {
     let mut active = Active::new(rt.alloc(), 4)?;
     active.mark(1);
     let mut chunks = ChunkSet::new(rt.alloc(), 4)?;
-    find_needed(&cat, &overlays, &active, false, &mut chunks);
+    owed(&cat, &overlays, &active, false, &mut chunks);
     assert_eq!(rt; chunks.count(), 1);
     assert!(rt; chunks.has(1));
-    find_counted(&cat, &overlays, &mut chunks);
+    owed_in_counting(&cat, &overlays, &mut chunks);
     assert_eq!(rt; chunks.count(), 3);
     Ok(())
 }

@@ -1,12 +1,10 @@
 //! The file of a grid.
 
-ghost use Rattle.std.specs.Prelude.{◌≡◌, ◌≤◌, ◌++◌, ◌⊎◌, length, flat_map, IfOk, OnOk, OnErr, IsErrOf, IsTrue};
+ghost use Rattle.std.specs.Prelude.{◌≡◌, ◌≤◌, length, IfOk, OnOk, OnErr, IsErrOf, IsTrue};
 ghost use Rattle.gm_base.specs.declared.limits.TheConstants.{MAX_EDGES};
-ghost use Rattle.gm_base.specs.Graph.{IsGraph, IsSameGraph};
-ghost use Rattle.gm_outside.specs.Causes.{HasCause, HasExactCause};
-ghost use Rattle.gm_outside.specs.Changes.{with_file, HoldsPrefix};
-ghost use Rattle.gm_grid.specs.Format.{count_bytes, head_bytes, edges_of_grid, IsGrid};
-ghost use Rattle.gm_build.specs.Blocks.{blocks_from, built_file};
+ghost use Rattle.gm_base.specs.Graph.{IsGraph};
+ghost use Rattle.gm_outside.specs.Frames.{OnlyWrites, CountsFaults, CountsWriteFaults};
+ghost use Rattle.gm_build.specs.Blocks.{front_bytes, built_file, IsBuiltGrid, KeepsGraph, HoldsGrid, HoldsPart};
 
 use crate::blocks::{add_up, count_blocks};
 use crate::places::fill_body;
@@ -22,7 +20,7 @@ fn front_of(
     counts: &[usize],
     size: usize,
 ) -> Result<Vec<u8>, AllocError>
-    ensures { IfOk result (λ front. front.items ≡ head_bytes shape.now.n shape.now.parts ++ flat_map count_bytes counts.now) }
+    ensures { IfOk result (λ front. front.items ≡ front_bytes shape.now counts.now) }
 {
     let mut front = Vec::with_capacity(alloc, size)?;
     let mut head = [0u8; 16];
@@ -41,8 +39,8 @@ pub(crate) fn file_of(alloc: Global, shape: &Shape, edges: &[Edge]) -> Result<Ve
     requires ends { IsGraph shape.now.n edges.now }
     requires few { length edges.now ≤ MAX_EDGES }
     ensures bytes { IfOk result (λ file. file.items ≡ built_file shape.now edges.now) }
-    ensures grid { OnOk result (IsGrid (built_file shape.now edges.now) shape.now.n shape.now.parts (blocks_from shape.now edges.now)) }
-    ensures graph { OnOk result (IsSameGraph (edges_of_grid (blocks_from shape.now edges.now)) edges.now) }
+    ensures grid { OnOk result (IsBuiltGrid shape.now edges.now) }
+    ensures graph { OnOk result (KeepsGraph shape.now edges.now) }
 {
     let mut counts = count_blocks(alloc, shape, edges)?;
     let parts = shape.parts() as usize;
@@ -67,16 +65,14 @@ pub fn build<D: Depot>(
 ) -> Result<(), Trouble>
     requires ends { IsGraph shape.now.n edges.now }
     requires few { length edges.now ≤ MAX_EDGES }
-    ensures ok { OnOk result (D.files depot.new ≡ with_file (D.files depot.old) name.now (built_file shape.now edges.now)) }
-    ensures grid { OnOk result (IsGrid (built_file shape.now edges.now) shape.now.n shape.now.parts (blocks_from shape.now edges.now)) }
-    ensures graph { OnOk result (IsSameGraph (edges_of_grid (blocks_from shape.now edges.now)) edges.now) }
-    ensures err { OnErr result ((D.files depot.new ≡ D.files depot.old)
-        ⊎ HoldsPrefix (D.files depot.old) (D.files depot.new) name.now (built_file shape.now edges.now)) }
-    ensures cause { HasExactCause Trouble.Failed (D.faults depot.old) (D.faults depot.new) result }
-    ensures write_cause { HasCause Trouble.Failed (D.write_faults depot.old) (D.write_faults depot.new) result }
-    ensures calm { IsTrue (D.calm depot.old) → IsErrOf result Trouble.Failed → ⊥ }
-    ensures calm_kept { D.calm depot.new ≡ D.calm depot.old }
-    ensures reads_kept { D.reads depot.new ≡ D.reads depot.old }
+    ensures ok { OnOk result (HoldsGrid (D.state depot.old) (D.state depot.new) name.now shape.now edges.now) }
+    ensures grid { OnOk result (IsBuiltGrid shape.now edges.now) }
+    ensures graph { OnOk result (KeepsGraph shape.now edges.now) }
+    ensures err { OnErr result (HoldsPart (D.state depot.old) (D.state depot.new) name.now shape.now edges.now) }
+    ensures cause { CountsFaults (D.state depot.old) (D.state depot.new) result }
+    ensures write_cause { CountsWriteFaults (D.state depot.old) (D.state depot.new) result }
+    ensures calm { IsTrue (D.state depot.old).calm → IsErrOf result Trouble.Failed → ⊥ }
+    ensures frame { OnlyWrites (D.state depot.old) (D.state depot.new) }
 {
     let file = file_of(alloc, shape, edges.as_slice())?;
     depot.create(name)?;

@@ -6,12 +6,10 @@ use Rattle.gm_base.specs.declared.edge.Edge.{Edge}
 use Rattle.gm_base.specs.declared.job.JobLine.{JobLine}
 use Rattle.gm_base.specs.declared.job.Outcome.{Outcome}
 use Rattle.gm_base.specs.declared.job.Outcome.TheVariants.{Done, Rounds, Read, Changed, Memory}
-use Rattle.gm_outside.specs.declared.traits.Depot as Depot
-use Rattle.gm_outside.specs.Calls.{depot_change}
 use Rattle.gm_outside.specs.Causes.{counted_times}
 use Rattle.gm_outside.specs.CausesRules.{counted_times-add}
 use Rattle.gm_outside.specs.Files.{Files}
-use Rattle.gm_outside.specs.Frames.{DepotChange}
+use Rattle.gm_outside.specs.States.{DepotState}
 use Rattle.gm_outside.specs.FramesRules.{only_reads-none, only_reads-then}
 use Rattle.gm_grid.specs.GridBytes.{edges_in}
 use Rattle.gm_label.specs.Catalogues.{Catalogue}
@@ -79,26 +77,26 @@ faults_push lines line first before now sofar next =
     by_outcome Memory is next = absurd next
 
 -- the depot after some of the jobs, whose lines these are
-pub record RunSoFar {D : Type 0} (g : Depot.Ghosts D) (old now : D) (name : List ℕ) (cat : Catalogue) (jobs rest : List StatedJob) (lines : List JobLine) : Type 0 where
+pub record RunSoFar (old now : DepotState) (name : List ℕ) (cat : Catalogue) (jobs rest : List StatedJob) (lines : List JobLine) : Type 0 where
   pub done : List StatedJob
   pub split : jobs ≡ done ++ rest
   pub told : AreLinesOfJobs (λ job outcome. IsTold outcome) done lines
-  pub frame : ReadsSome (depot_change g old now)
-  pub faults : FaultsOf lines (g.faults old) (g.faults now)
-  pub over : (bytes : List ℕ) → TellsGrid (g.files old) name cat bytes
-      → RunOver cat (edges_in bytes) (depot_change g old now) done lines × (g.reads now ≤ g.reads old + runs_weight cat (edges_in bytes) done)
+  pub frame : ReadsSome old now
+  pub faults : FaultsOf lines old.faults now.faults
+  pub over : (bytes : List ℕ) → TellsGrid old.files name cat bytes
+      → RunOver cat (edges_in bytes) old now done lines × (now.reads ≤ old.reads + runs_weight cat (edges_in bytes) done)
 
-pub none_yet : {D : Type 0} (g : Depot.Ghosts D) (depot : D) (name : List ℕ) (cat : Catalogue) (jobs rest : List StatedJob) (lines : List JobLine) → rest ≡ jobs → lines ≡ []
-    → RunSoFar g depot depot name cat jobs rest lines
-none_yet g depot name cat jobs rest lines all none = record {
+pub none_yet : (depot : DepotState) (name : List ℕ) (cat : Catalogue) (jobs rest : List StatedJob) (lines : List JobLine) → rest ≡ jobs → lines ≡ []
+    → RunSoFar depot depot name cat jobs rest lines
+none_yet depot name cat jobs rest lines all none = record {
   done = [];
   split = sym all;
   told = subst (AreLinesOfJobs (λ job outcome. IsTold outcome) []) (sym none) tt;
-  frame = (0, only_reads-none g depot);
-  faults = subst (λ (lines : List JobLine). FaultsOf lines (g.faults depot) (g.faults depot)) (sym none) (record { misses = omega arith; served = λ _. refl });
+  frame = (0, only_reads-none depot);
+  faults = subst (λ (lines : List JobLine). FaultsOf lines depot.faults depot.faults) (sym none) (record { misses = omega arith; served = λ _. refl });
   over = λ bytes tells. (
     record {
-      ended = subst (AreLinesOfJobs (EndsOver cat (edges_in bytes) (g.calm depot)) []) (sym none) tt;
+      ended = subst (AreLinesOfJobs (EndsOver cat (edges_in bytes) depot.calm) []) (sym none) tt;
       reads = λ _. refl;
     },
     omega arith,
@@ -106,9 +104,9 @@ none_yet g depot name cat jobs rest lines all none = record {
 }
 
 -- the depot still tells the grid after calls that only read
-tells_still : {D : Type 0} (g : Depot.Ghosts D) (old now : D) (name : List ℕ) (cat : Catalogue) (bytes : List ℕ) → g.files now ≡ g.files old
-    → TellsGrid (g.files old) name cat bytes → TellsGrid (g.files now) name cat bytes
-tells_still g old now name cat bytes same tells = subst (λ (files : Option Files). TellsGrid files name cat bytes) (sym same) tells
+tells_still : (old now : DepotState) (name : List ℕ) (cat : Catalogue) (bytes : List ℕ) → now.files ≡ old.files
+    → TellsGrid old.files name cat bytes → TellsGrid now.files name cat bytes
+tells_still old now name cat bytes same tells = subst (λ (files : Option Files). TellsGrid files name cat bytes) (sym same) tells
 
 weight_push : (cat : Catalogue) (edges : List Edge) (jobs : List StatedJob) (job : StatedJob)
     → runs_weight cat edges (jobs ++ job ∷ []) ≡ runs_weight cat edges jobs + run_weight (view_of_job cat edges job) (pass_reads cat)
@@ -123,115 +121,112 @@ weight_front cat edges jobs done rest split =
     let all = ap (runs_weight cat edges) split in
     omega (arith, both, all)
 
-ends_over : (cat : Catalogue) (edges : List Edge) (job : StatedJob) (depot : DepotChange) (calm : Bool) (outcome : Outcome) → depot.calm ≡ calm
-    → JobEnds (view_of_job cat edges job) (pass_reads cat) depot outcome → EndsOver cat edges calm job outcome
-ends_over cat edges job depot calm outcome same (inl alone) = inl alone.0
-ends_over cat edges job depot calm outcome same (inr fails) =
+ends_over : (cat : Catalogue) (edges : List Edge) (job : StatedJob) (old new : DepotState) (calm : Bool) (outcome : Outcome) → old.calm ≡ calm
+    → JobEnds (view_of_job cat edges job) (pass_reads cat) old new outcome → EndsOver cat edges calm job outcome
+ends_over cat edges job old new calm outcome same (inl alone) = inl alone.0
+ends_over cat edges job old new calm outcome same (inr fails) =
     inr (record { chunk = fails.chunk; is = fails.is; needed = fails.needed; not_calm = λ calm. fails.not_calm (same ∙ calm) })
 
 -- without a failed read one job more took exactly its reads more
-reads_push : (cat : Catalogue) (edges : List Edge) (depot next all : DepotChange) (jobs : List StatedJob) (lines : List JobLine) (job : StatedJob) (line : JobLine)
-    → next.reads ≡ depot.reads_now → all.reads ≡ depot.reads → all.reads_now ≡ next.reads_now
-    → (failed_reads lines ≡ 0 → depot.reads_now ≡ counted_times (runs_weight cat edges jobs) depot.reads)
-    → JobEnds (view_of_job cat edges job) (pass_reads cat) next line.outcome
-    → failed_reads (lines ++ line ∷ []) ≡ 0 → all.reads_now ≡ counted_times (runs_weight cat edges (jobs ++ job ∷ [])) all.reads
-reads_push cat edges depot next all jobs lines job line from first last sofar (inl alone) none =
+reads_push : (cat : Catalogue) (edges : List Edge) (old mid new : DepotState) (jobs : List StatedJob) (lines : List JobLine) (job : StatedJob) (line : JobLine)
+    → (failed_reads lines ≡ 0 → mid.reads ≡ counted_times (runs_weight cat edges jobs) old.reads)
+    → JobEnds (view_of_job cat edges job) (pass_reads cat) mid new line.outcome
+    → failed_reads (lines ++ line ∷ []) ≡ 0 → new.reads ≡ counted_times (runs_weight cat edges (jobs ++ job ∷ [])) old.reads
+reads_push cat edges old mid new jobs lines job line sofar (inl alone) none =
     let weight = run_weight (view_of_job cat edges job) (pass_reads cat) in
     let pushed = failed_reads-push lines line in
-    let before = sofar (omega (arith, pushed, none)) in
-    last ∙ alone.1 ∙ ap (counted_times weight) (from ∙ before)
-    ∙ sym (counted_times-add (runs_weight cat edges jobs) weight depot.reads)
-    ∙ ap (λ (n : ℕ). counted_times n depot.reads) (sym (weight_push cat edges jobs job))
-    ∙ ap (counted_times (runs_weight cat edges (jobs ++ job ∷ []))) (sym first)
-reads_push cat edges depot next all jobs lines job line from first last sofar (inr fails) none =
+    alone.1 ∙ ap (counted_times weight) (sofar (omega (arith, pushed, none)))
+    ∙ sym (counted_times-add (runs_weight cat edges jobs) weight old.reads)
+    ∙ ap (λ (n : ℕ). counted_times n old.reads) (sym (weight_push cat edges jobs job))
+reads_push cat edges old mid new jobs lines job line sofar (inr fails) none =
     let pushed = failed_reads-push lines line ∙ ap (λ (o : Outcome). failed_reads lines + failed_reads (with_outcome line o ∷ [])) fails.is in
     absurd (omega (arith, pushed, none))
 
 -- what a job's run reads is told of the one catalogue that is shared
-pub few_for : {D : Type 0} (g : Depot.Ghosts D) (before now : D) (name : List ℕ) (job : StatedJob) (shared cat : Catalogue) → shared ≡ cat
-    → ((bytes : List ℕ) → TellsGrid (g.files before) name shared bytes
-    → g.reads now ≤ g.reads before + run_weight (view_of_job shared (edges_in bytes) job) (pass_reads shared))
-    → (bytes : List ℕ) → TellsGrid (g.files before) name cat bytes → g.reads now ≤ g.reads before + run_weight (view_of_job cat (edges_in bytes) job) (pass_reads cat)
-few_for g before now name job shared cat same few =
-    subst (λ (c : Catalogue). (bytes : List ℕ) → TellsGrid (g.files before) name c bytes
-    → g.reads now ≤ g.reads before + run_weight (view_of_job c (edges_in bytes) job) (pass_reads c)) same few
+pub few_for : (before now : DepotState) (name : List ℕ) (job : StatedJob) (shared cat : Catalogue) → shared ≡ cat
+    → ((bytes : List ℕ) → TellsGrid before.files name shared bytes
+    → now.reads ≤ before.reads + run_weight (view_of_job shared (edges_in bytes) job) (pass_reads shared))
+    → (bytes : List ℕ) → TellsGrid before.files name cat bytes → now.reads ≤ before.reads + run_weight (view_of_job cat (edges_in bytes) job) (pass_reads cat)
+few_for before now name job shared cat same few =
+    subst (λ (c : Catalogue). (bytes : List ℕ) → TellsGrid before.files name c bytes
+    → now.reads ≤ before.reads + run_weight (view_of_job c (edges_in bytes) job) (pass_reads c)) same few
 
 -- .. and how the run ends
-pub ends_for : {D : Type 0} (g : Depot.Ghosts D) (before now : D) (name : List ℕ) (job : StatedJob) (outcome : Outcome) (shared cat : Catalogue) → shared ≡ cat
-    → ((bytes : List ℕ) → TellsGrid (g.files before) name shared bytes → JobEnds (view_of_job shared (edges_in bytes) job) (pass_reads shared) (depot_change g before now) outcome)
-    → (bytes : List ℕ) → TellsGrid (g.files before) name cat bytes → JobEnds (view_of_job cat (edges_in bytes) job) (pass_reads cat) (depot_change g before now) outcome
-ends_for g before now name job outcome shared cat same ends =
-    subst (λ (c : Catalogue). (bytes : List ℕ) → TellsGrid (g.files before) name c bytes
-    → JobEnds (view_of_job c (edges_in bytes) job) (pass_reads c) (depot_change g before now) outcome) same ends
+pub ends_for : (before now : DepotState) (name : List ℕ) (job : StatedJob) (outcome : Outcome) (shared cat : Catalogue) → shared ≡ cat
+    → ((bytes : List ℕ) → TellsGrid before.files name shared bytes → JobEnds (view_of_job shared (edges_in bytes) job) (pass_reads shared) before now outcome)
+    → (bytes : List ℕ) → TellsGrid before.files name cat bytes → JobEnds (view_of_job cat (edges_in bytes) job) (pass_reads cat) before now outcome
+ends_for before now name job outcome shared cat same ends =
+    subst (λ (c : Catalogue). (bytes : List ℕ) → TellsGrid before.files name c bytes
+    → JobEnds (view_of_job c (edges_in bytes) job) (pass_reads c) before now outcome) same ends
 
 -- one job more was run
-pub one_run : {D : Type 0} (g : Depot.Ghosts D) (old mid new : D) (name : List ℕ) (cat : Catalogue) (jobs rest more : List StatedJob) (lines : List JobLine) (job : StatedJob) (line : JobLine)
-    → RunSoFar g old mid name cat jobs rest lines → rest ≡ job ∷ more
+pub one_run : (old mid new : DepotState) (name : List ℕ) (cat : Catalogue) (jobs rest more : List StatedJob) (lines : List JobLine) (job : StatedJob) (line : JobLine)
+    → RunSoFar old mid name cat jobs rest lines → rest ≡ job ∷ more
     → line ≡ line_of_job job line.outcome
-    → ((bytes : List ℕ) → TellsGrid (g.files mid) name cat bytes → JobEnds (view_of_job cat (edges_in bytes) job) (pass_reads cat) (depot_change g mid new) line.outcome)
-    → ((bytes : List ℕ) → TellsGrid (g.files mid) name cat bytes → g.reads new ≤ g.reads mid + run_weight (view_of_job cat (edges_in bytes) job) (pass_reads cat))
-    → FaultsFor (g.faults mid) (g.faults new) line.outcome → ReadsSome (depot_change g mid new)
-    → RunSoFar g old new name cat jobs more (lines ++ line ∷ [])
-one_run g old mid new name cat jobs rest more lines job line sofar first is ends few faults frame = record {
+    → ((bytes : List ℕ) → TellsGrid mid.files name cat bytes → JobEnds (view_of_job cat (edges_in bytes) job) (pass_reads cat) mid new line.outcome)
+    → ((bytes : List ℕ) → TellsGrid mid.files name cat bytes → new.reads ≤ mid.reads + run_weight (view_of_job cat (edges_in bytes) job) (pass_reads cat))
+    → FaultsFor mid.faults new.faults line.outcome → ReadsSome mid new
+    → RunSoFar old new name cat jobs more (lines ++ line ∷ [])
+one_run old mid new name cat jobs rest more lines job line sofar first is ends few faults frame = record {
   done = sofar.done ++ job ∷ [];
   split = sofar.split ∙ ap (λ (r : List StatedJob). sofar.done ++ r) first ∙ sym (append_assoc sofar.done (job ∷ []) more);
-  told = one_more (λ job outcome. IsTold outcome) sofar.done lines job line sofar.told is (told_by_faults (g.faults mid) (g.faults new) line.outcome faults);
-  frame = (sofar.frame.0 + frame.0, only_reads-then g old mid new sofar.frame.0 frame.0 sofar.frame.1 frame.1);
-  faults = faults_push lines line (g.faults old) (g.faults mid) (g.faults new) sofar.faults faults;
+  told = one_more (λ job outcome. IsTold outcome) sofar.done lines job line sofar.told is (told_by_faults mid.faults new.faults line.outcome faults);
+  frame = (sofar.frame.0 + frame.0, only_reads-then 0 sofar.frame.0 0 frame.0 old mid new sofar.frame.1 frame.1);
+  faults = faults_push lines line old.faults mid.faults new.faults sofar.faults faults;
   over = over;
 }
   where
-    over : (bytes : List ℕ) → TellsGrid (g.files old) name cat bytes
-        → RunOver cat (edges_in bytes) (depot_change g old new) (sofar.done ++ job ∷ []) (lines ++ line ∷ []) × (g.reads new ≤ g.reads old + runs_weight cat (edges_in bytes) (sofar.done ++ job ∷ []))
+    over : (bytes : List ℕ) → TellsGrid old.files name cat bytes
+        → RunOver cat (edges_in bytes) old new (sofar.done ++ job ∷ []) (lines ++ line ∷ []) × (new.reads ≤ old.reads + runs_weight cat (edges_in bytes) (sofar.done ++ job ∷ []))
     over bytes tells =
         let edges = edges_in bytes in
         let before = sofar.over bytes tells in
-        let still = tells_still g old mid name cat bytes sofar.frame.1.files_kept tells in
+        let still = tells_still old mid name cat bytes sofar.frame.1.files tells in
         let end = ends bytes still in
         let most = few bytes still in
         let most_before = before.1 in
         let pushed = weight_push cat edges sofar.done job in (
           record {
-            ended = one_more (EndsOver cat edges (g.calm old)) sofar.done lines job line before.0.ended is
-                (ends_over cat edges job (depot_change g mid new) (g.calm old) line.outcome sofar.frame.1.calm_kept end);
-            reads = reads_push cat edges (depot_change g old mid) (depot_change g mid new) (depot_change g old new) sofar.done lines job line refl refl refl before.0.reads end;
+            ended = one_more (EndsOver cat edges old.calm) sofar.done lines job line before.0.ended is
+                (ends_over cat edges job mid new old.calm line.outcome sofar.frame.1.calm end);
+            reads = reads_push cat edges old mid new sofar.done lines job line before.0.reads end;
           },
           omega (arith, most, most_before, pushed),
         )
 
 -- so far no more was read than by all
-pub few_sofar : {D : Type 0} (g : Depot.Ghosts D) (old now : D) (name : List ℕ) (cat : Catalogue) (jobs rest : List StatedJob) (lines : List JobLine)
-    → RunSoFar g old now name cat jobs rest lines → (bytes : List ℕ) → TellsGrid (g.files old) name cat bytes
-    → g.reads now ≤ g.reads old + runs_weight cat (edges_in bytes) jobs
-few_sofar g old now name cat jobs rest lines sofar bytes tells =
+pub few_sofar : (old now : DepotState) (name : List ℕ) (cat : Catalogue) (jobs rest : List StatedJob) (lines : List JobLine)
+    → RunSoFar old now name cat jobs rest lines → (bytes : List ℕ) → TellsGrid old.files name cat bytes
+    → now.reads ≤ old.reads + runs_weight cat (edges_in bytes) jobs
+few_sofar old now name cat jobs rest lines sofar bytes tells =
     let most = (sofar.over bytes tells).1 in
     let front = weight_front cat (edges_in bytes) jobs sofar.done rest sofar.split in
     omega (arith, most, front)
 
 -- nor with the next one, however it ended
-pub few_next : {D : Type 0} (g : Depot.Ghosts D) (old mid new : D) (name : List ℕ) (cat : Catalogue) (jobs rest more : List StatedJob) (lines : List JobLine) (job : StatedJob)
-    → RunSoFar g old mid name cat jobs rest lines → rest ≡ job ∷ more
-    → ((bytes : List ℕ) → TellsGrid (g.files mid) name cat bytes → g.reads new ≤ g.reads mid + run_weight (view_of_job cat (edges_in bytes) job) (pass_reads cat))
-    → (bytes : List ℕ) → TellsGrid (g.files old) name cat bytes → g.reads new ≤ g.reads old + runs_weight cat (edges_in bytes) jobs
-few_next g old mid new name cat jobs rest more lines job sofar first few bytes tells =
+pub few_next : (old mid new : DepotState) (name : List ℕ) (cat : Catalogue) (jobs rest more : List StatedJob) (lines : List JobLine) (job : StatedJob)
+    → RunSoFar old mid name cat jobs rest lines → rest ≡ job ∷ more
+    → ((bytes : List ℕ) → TellsGrid mid.files name cat bytes → new.reads ≤ mid.reads + run_weight (view_of_job cat (edges_in bytes) job) (pass_reads cat))
+    → (bytes : List ℕ) → TellsGrid old.files name cat bytes → new.reads ≤ old.reads + runs_weight cat (edges_in bytes) jobs
+few_next old mid new name cat jobs rest more lines job sofar first few bytes tells =
     let edges = edges_in bytes in
     let most = (sofar.over bytes tells).1 in
-    let next = few bytes (tells_still g old mid name cat bytes sofar.frame.1.files_kept tells) in
+    let next = few bytes (tells_still old mid name cat bytes sofar.frame.1.files tells) in
     let pushed = weight_push cat edges sofar.done job in
     let front = weight_front cat edges jobs (sofar.done ++ job ∷ []) more
     (sofar.split ∙ ap (λ (r : List StatedJob). sofar.done ++ r) first ∙ sym (append_assoc sofar.done (job ∷ []) more)) in
     omega (arith, most, next, pushed, front)
 
-pub frame_next : {D : Type 0} (g : Depot.Ghosts D) (old mid new : D) → ReadsSome (depot_change g old mid) → ReadsSome (depot_change g mid new) → ReadsSome (depot_change g old new)
-frame_next g old mid new first second = (first.0 + second.0, only_reads-then g old mid new first.0 second.0 first.1 second.1)
+pub frame_next : (old mid new : DepotState) → ReadsSome old mid → ReadsSome mid new → ReadsSome old new
+frame_next old mid new first second = (first.0 + second.0, only_reads-then 0 first.0 0 second.0 old mid new first.1 second.1)
 
 -- none is left
-pub all_done : {D : Type 0} (g : Depot.Ghosts D) (old now : D) (name : List ℕ) (cat : Catalogue) (jobs rest : List StatedJob) (lines : List JobLine)
-    → RunSoFar g old now name cat jobs rest lines → rest ≡ []
+pub all_done : (old now : DepotState) (name : List ℕ) (cat : Catalogue) (jobs rest : List StatedJob) (lines : List JobLine)
+    → RunSoFar old now name cat jobs rest lines → rest ≡ []
     → AreLinesOfJobs (λ job outcome. IsTold outcome) jobs lines
-    × ((bytes : List ℕ) → TellsGrid (g.files old) name cat bytes → RunOver cat (edges_in bytes) (depot_change g old now) jobs lines)
-all_done g old now name cat jobs rest lines sofar none =
+    × ((bytes : List ℕ) → TellsGrid old.files name cat bytes → RunOver cat (edges_in bytes) old now jobs lines)
+all_done old now name cat jobs rest lines sofar none =
     let all : sofar.done ≡ jobs = sym (sofar.split ∙ ap (λ (r : List StatedJob). sofar.done ++ r) none ∙ append-nil sofar.done) in (
       subst (λ (done : List StatedJob). AreLinesOfJobs (λ job outcome. IsTold outcome) done lines) all sofar.told,
-      λ bytes tells. subst (λ (done : List StatedJob). RunOver cat (edges_in bytes) (depot_change g old now) done lines) all (sofar.over bytes tells).0,
+      λ bytes tells. subst (λ (done : List StatedJob). RunOver cat (edges_in bytes) old now done lines) all (sofar.over bytes tells).0,
     )

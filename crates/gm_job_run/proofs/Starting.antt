@@ -4,7 +4,7 @@ use Rattle.std.proofs.Common.{ap, ◌∙◌, subst, arith}
 use Rattle.std.proofs.Math.Seq.{take-length}
 use Rattle.std.proofs.lemmas.List.Elements.{All-tail}
 use Rattle.gm_base.specs.declared.job.Spec.{Spec}
-use Rattle.gm_outside.specs.declared.traits.Depot as Depot
+use Rattle.gm_outside.specs.States.{DepotState}
 use Rattle.gm_grid.specs.GridBytes.{edges_in}
 use Rattle.gm_kernel.specs.Runs.{most_rounds}
 use Rattle.gm_label.specs.declared.chunk.Overlay.{Overlay}
@@ -18,7 +18,7 @@ use Rattle.gm_versions.specs.Contents.{all_changes}
 use Rattle.gm_private.specs.OwnChanges.{IsOwnOver, OwnChanges, snapshot_in}
 use Rattle.gm_work.specs.Views.{JobView, first_standing}
 use Rattle.gm_work.specs.Weights.{run_weight, weight_left}
-use Rattle.gm_work.specs.Held.{Held, admitted}
+use Rattle.gm_work.specs.HeldJobs.{HeldJob, admitted_job}
 use Rattle.gm_versions.specs.Snapshots.{IsSnapshotOver, Snapshot, overlays_of}
 use Rattle.gm_scripts.specs.ScriptJobs.{snapshot_of}
 use Rattle.gm_core.specs.SnapshotViews.{snapshot_view}
@@ -28,17 +28,17 @@ use Rattle.gm_job_run.specs.JobRuns.{WhereUnderWay, pass_reads}
 use Rattle.gm_job_run.proofs.JobLemmas.{Begins, under_way-begins}
 
 abbrev pub WeightBegins : Type 0
-WeightBegins = (d : JobView) (weight : ℕ → ℕ) → 1 ≤ most_rounds d.known.spec → weight_left d weight (first_standing d) ≡ run_weight d weight
+WeightBegins = (d : JobView) (weight : ℕ → ℕ) → 1 ≤ most_rounds d.context.spec → weight_left d weight (first_standing d) ≡ run_weight d weight
 
--- what holds after a call on a job that was just admitted, over a depot that tells the grid
-pub where-admitted : {D : Type 0} (g : Depot.Ghosts D) (depot : D) (name : List ℕ) (h : Held) (number : ℕ) (spec : Spec) (cat : Catalogue) (overlays : List Overlay) (seen : Snapshot) (bytes : List ℕ)
-    (Holds : JobView → (ℕ → ℕ) → ℕ → Type 0) → h ≡ admitted number spec cat overlays → overlays ≡ overlays_of cat seen → 1 ≤ most_rounds spec → Begins → WeightBegins
-    → TellsGrid (g.files depot) name cat bytes → WhereUnderWay g depot name h seen Holds → Holds (snapshot_view spec cat (edges_in bytes) seen) (pass_reads cat) (g.reads depot)
-where-admitted g depot name h number spec cat overlays seen bytes Holds is sees some begins weighs told holds =
-    let seeing : h ≡ admitted number spec cat (overlays_of cat seen) = is ∙ ap (admitted number spec cat) sees in
+-- what holds after a call on a job that was just admitted_job, over a depot that tells the grid
+pub where-admitted_job : (depot : DepotState) (name : List ℕ) (h : HeldJob) (number : ℕ) (spec : Spec) (cat : Catalogue) (overlays : List Overlay) (seen : Snapshot) (bytes : List ℕ)
+    (Holds : JobView → (ℕ → ℕ) → ℕ → Type 0) → h ≡ admitted_job number spec cat overlays → overlays ≡ overlays_of cat seen → 1 ≤ most_rounds spec → Begins → WeightBegins
+    → TellsGrid depot.files name cat bytes → WhereUnderWay depot name h seen Holds → Holds (snapshot_view spec cat (edges_in bytes) seen) (pass_reads cat) depot.reads
+where-admitted_job depot name h number spec cat overlays seen bytes Holds is sees some begins weighs told holds =
+    let seeing : h ≡ admitted_job number spec cat (overlays_of cat seen) = is ∙ ap (admitted_job number spec cat) sees in
     let d = snapshot_view spec cat (edges_in bytes) seen in
-    subst (λ (k : Held). WhereUnderWay g depot name k seen Holds) seeing holds bytes (g.reads depot) told
-    (under_way-begins d (pass_reads cat) (g.reads depot) some begins (weighs d (pass_reads cat) some))
+    subst (λ (k : HeldJob). WhereUnderWay depot name k seen Holds) seeing holds bytes depot.reads told
+    (under_way-begins d (pass_reads cat) depot.reads some begins (weighs d (pass_reads cat) some))
 
 pub ok_weaker : {X E : Type 0} (P Q : X → Type 0) (r : Result X E) → ((x : X) → P x → Q x) → IfOk r P → IfOk r Q
 ok_weaker P Q (Ok x) each ok = each x ok

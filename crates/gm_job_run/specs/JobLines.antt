@@ -5,7 +5,8 @@ use Rattle.gm_base.specs.declared.job.JobLine.{JobLine}
 use Rattle.gm_base.specs.declared.job.Outcome.{Outcome}
 use Rattle.gm_base.specs.declared.job.Outcome.TheVariants.{Done, Rounds, Read, Changed, Memory}
 use Rattle.gm_outside.specs.Causes.{counted_times}
-use Rattle.gm_outside.specs.Frames.{DepotChange}
+use Rattle.gm_outside.specs.States.{DepotState}
+use Rattle.gm_grid.specs.GridBytes.{edges_in}
 use Rattle.gm_label.specs.Catalogues.{Catalogue}
 use Rattle.gm_jobs.specs.StatedJobs.{StatedJob}
 use Rattle.gm_versions.specs.declared.versions.Versions.{Versions}
@@ -54,6 +55,10 @@ IsTold Memory = ⊥
 abbrev pub view_of_job : Catalogue → List Edge → StatedJob → JobView
 view_of_job cat edges job = snapshot_view job.spec cat edges (snapshot_of job)
 
+-- a job of a script below these updates, over the edges that these bytes of its grid tell
+abbrev pub view_below : Catalogue → List ℕ → Versions → Job → JobView
+view_below cat bytes versions job = view_of_job cat (edges_in bytes) (job_below versions job)
+
 -- how many reads the lone runs of these jobs take over these edges, each phase those of the chunks that it needs
 abbrev pub runs_weight : Catalogue → List Edge → List StatedJob → ℕ
 runs_weight cat edges jobs = sum_by (λ job. run_weight (view_of_job cat edges job) (pass_reads cat)) jobs
@@ -61,12 +66,14 @@ runs_weight cat edges jobs = sum_by (λ job. run_weight (view_of_job cat edges j
 -- the job ended as its lone run over all edges that it sees, or at a chunk that it needed and that couldn't be read
 abbrev pub EndsOver : Catalogue → List Edge → Bool → StatedJob → Outcome → Type 0
 EndsOver cat edges calm job outcome =
-    (outcome ≡ lone_run job.spec cat.dimensions.n (edges_of edges (snapshot_of job))) ⊎ FailsToRead (view_of_job cat edges job) calm outcome
+    (outcome ≡ lone_run job.spec cat.dimensions.n (edges_of edges (snapshot_of job)))
+    ⊎ FailsToRead (view_of_job cat edges job) calm outcome
 
 -- Jobs were run one after the other over a grid's edges. Without a failed read that took exactly the reads of their lone runs.
-pub record RunOver (cat : Catalogue) (edges : List Edge) (depot : DepotChange) (jobs : List StatedJob) (lines : List JobLine) : Type 0 where
-  pub ended : AreLinesOfJobs (EndsOver cat edges depot.calm) jobs lines
-  pub reads : failed_reads lines ≡ 0 → depot.reads_now ≡ counted_times (runs_weight cat edges jobs) depot.reads
+pub record RunOver (cat : Catalogue) (edges : List Edge) (old new : DepotState)
+    (jobs : List StatedJob) (lines : List JobLine) : Type 0 where
+  pub ended : AreLinesOfJobs (EndsOver cat edges old.calm) jobs lines
+  pub reads : failed_reads lines ≡ 0 → new.reads ≡ counted_times (runs_weight cat edges jobs) old.reads
 
 -- each failed read raised the count of faults, and nothing else did
 pub record FaultsOf (lines : List JobLine) (before now : ℕ) : Type 0 where

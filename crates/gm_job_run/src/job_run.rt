@@ -3,20 +3,18 @@
 ghost use Rattle.std.specs.Prelude.{◌≡◌, ◌≤◌, ◌<◌, ◌+◌, ℕ, List, true, false, length, slice_set, All, IfOk, IfErr, OnOk, OnErr, Some, None, MatchResult};
 ghost use Rattle.std.specs.Arc.{arc_value};
 ghost use Rattle.gm_base.specs.Graph.{HasEndsBelow};
-ghost use Rattle.gm_outside.specs.Causes.{counted_times};
-ghost use Rattle.gm_outside.specs.Calls.{depot_change};
-ghost use Rattle.gm_job_run.specs.JobRuns.{pass_reads, StaysUnderWay, TurnsFor, Carries, HasEnded, StopFaults, OfChunk, IsToldStop, ReadsSome, IsOfChunks, JobEnds, FaultsFor, outcome_of_stop, outcome_of_turn, stop_of};
+ghost use Rattle.gm_job_run.specs.JobRuns.{pass_reads, CountsStops, CountsOutcomes, OfChunk, IsToldStop, ReadsSome, IsOfChunks, JobEnds, outcome_of_stop, outcome_of_end, end_of, stop_of};
 ghost use Rattle.gm_outside.specs.Frames.{OnlyReads};
 ghost use Rattle.gm_grid.specs.GridBytes.{edges_in};
 ghost use Rattle.gm_source.specs.Fetches.{TellsGrid, FitsCatalogue};
+ghost use Rattle.gm_source.specs.Openings.{ReadsJust, ReadsUpTo};
 ghost use Rattle.gm_label.specs.Catalogues.{base_at};
 ghost use Rattle.gm_kernel.specs.Runs.{most_rounds};
 ghost use Rattle.gm_versions.specs.Snapshots.{IsSnapshotOver, content_of, overlays_of};
-ghost use Rattle.gm_core.specs.SnapshotViews.{snapshot_view};
-ghost use Rattle.gm_job_run.specs.SeenViews.{IsViewOf, Sees, seen_in};
+ghost use Rattle.gm_job_run.specs.SeenViews.{IsViewOf, Sees, StaysIn, EndsIn, CarriesIn, seen_in, shown_view};
 ghost use Rattle.gm_active.specs.Bits.{is_in};
 ghost use Rattle.gm_label.specs.Overlays.{key_at};
-ghost use Rattle.gm_work.specs.Entries.{owes_any};
+ghost use Rattle.gm_work.specs.JobStates.{owes_any};
 ghost use Rattle.gm_work.specs.Weights.{run_weight};
 
 use crate::view::View;
@@ -42,6 +40,26 @@ pub(crate) enum Stop {
     Memory,
 }
 
+/// How a job came to its end.
+#[derive(Drop)]
+pub(crate) enum End {
+    /// It is done after so many rounds.
+    Done { rounds: u32 },
+    /// It hadn't settled after as many rounds as its bound allows.
+    Bound { bound: u32 },
+}
+
+/// How a turn ended its job, if it did.
+fn end_of(turned: Turned) -> Option<End>
+    ensures { result ≡ end_of turned }
+{
+    match turned {
+        Turned::Owes => None,
+        Turned::Done { rounds } => Some(End::Done { rounds }),
+        Turned::Bound { bound } => Some(End::Bound { bound }),
+    }
+}
+
 /// Why a fetch of a chunk stops its job.
 fn stop_of(chunk: u32, error: FetchError) -> Stop
     ensures { result ≡ stop_of chunk error }
@@ -63,13 +81,15 @@ fn fetch_edges<D: Depot>(
 ) -> Result<Raw, Stop>
     requires { chunk < length cat.now.places }
     ensures fits { IfOk result (FitsCatalogue cat.now chunk) }
-    ensures told { (bytes : List ℕ) → TellsGrid (D.files depot.old) name.now cat.now bytes
+    ensures told { (bytes : List ℕ) → TellsGrid (D.state depot.old).files name.now cat.now bytes
         → IfOk result (λ raw. raw.edges ≡ base_at cat.now (edges_in bytes) chunk) }
-    ensures told_stop { (bytes : List ℕ) → TellsGrid (D.files depot.old) name.now cat.now bytes → IfErr result (IsToldStop (D.calm depot.old)) }
+    ensures told_stop { (bytes : List ℕ) → TellsGrid (D.state depot.old).files name.now cat.now bytes
+        → IfErr result (IsToldStop (D.state depot.old).calm) }
     ensures stop { IfErr result (OfChunk chunk) }
-    ensures read { OnOk result (D.reads depot.new ≡ counted_times (pass_reads cat.now chunk) (D.reads depot.old)) }
-    ensures faults { MatchResult result (λ raw. D.faults depot.new ≡ D.faults depot.old) (StopFaults (D.faults depot.old) (D.faults depot.new)) }
-    ensures frame { OnlyReads (pass_reads cat.now chunk) (depot_change ⟦<D as Depot>⟧ depot.old depot.new) }
+    ensures read { OnOk result
+        (ReadsJust (pass_reads cat.now chunk) (D.state depot.old) (D.state depot.new)) }
+    ensures faults { CountsStops (D.state depot.old) (D.state depot.new) result }
+    ensures frame { OnlyReads 0 (pass_reads cat.now chunk) (D.state depot.old) (D.state depot.new) }
 {
     match fetcher.fetch(cat, chunk, depot, name) {
         Ok(raw) => Ok(raw),
@@ -92,13 +112,17 @@ fn fetch_copy<D: Depot>(
     requires over { IsSnapshotOver cat.now.dimensions.n (seen_in view.now) }
     ensures key { IfOk result (λ copy. copy.key ≡ key) }
     ensures ends { IfOk result (λ copy. All (HasEndsBelow cat.now.dimensions.n) copy.edges) }
-    ensures told { (bytes : List ℕ) → TellsGrid (D.files depot.old) view.now.name.now cat.now bytes
-        → IfOk result (λ copy. copy.edges ≡ content_of cat.now (edges_in bytes) (seen_in view.now) key.chunk) }
-    ensures told_stop { (bytes : List ℕ) → TellsGrid (D.files depot.old) view.now.name.now cat.now bytes → IfErr result (IsToldStop (D.calm depot.old)) }
+    ensures told { (bytes : List ℕ) → TellsGrid (D.state depot.old).files view.now.name.now cat.now bytes
+        → IfOk result (λ copy.
+        copy.edges ≡ content_of cat.now (edges_in bytes) (seen_in view.now) key.chunk) }
+    ensures told_stop { (bytes : List ℕ)
+        → TellsGrid (D.state depot.old).files view.now.name.now cat.now bytes
+        → IfErr result (IsToldStop (D.state depot.old).calm) }
     ensures stop { IfErr result (OfChunk key.chunk) }
-    ensures read { OnOk result (D.reads depot.new ≡ counted_times (pass_reads cat.now key.chunk) (D.reads depot.old)) }
-    ensures faults { MatchResult result (λ copy. D.faults depot.new ≡ D.faults depot.old) (StopFaults (D.faults depot.old) (D.faults depot.new)) }
-    ensures frame { OnlyReads (pass_reads cat.now key.chunk) (depot_change ⟦<D as Depot>⟧ depot.old depot.new) }
+    ensures read { OnOk result
+        (ReadsJust (pass_reads cat.now key.chunk) (D.state depot.old) (D.state depot.new)) }
+    ensures faults { CountsStops (D.state depot.old) (D.state depot.new) result }
+    ensures frame { OnlyReads 0 (pass_reads cat.now key.chunk) (D.state depot.old) (D.state depot.new) }
 {
     catalogues_are_over_their_edges();
     let raw = fetch_edges(fetcher, depot, key.chunk, view.name, cat)?;
@@ -118,13 +142,14 @@ fn pass_chunk<D: Depot>(
     chunk: u32,
 ) -> Result<(), Stop>
     requires within { chunk < length work.old.catalogue.places }
-    requires owed { is_in work.old.entry.owed chunk ≡ true }
+    requires owed { is_in work.old.state.owed chunk ≡ true }
     requires view { IsViewOf work.old.catalogue view.now }
     requires sees { Sees work.old (seen_in view.now) }
-    ensures phase { work.new.entry.phase ≡ work.old.entry.phase }
-    ensures less { OnOk result (work.new.entry.owed ≡ slice_set work.old.entry.owed chunk false) }
-    ensures under_way { OnOk result (StaysUnderWay ⟦<D as Depot>⟧ depot.old depot.new view.now.name.now (seen_in view.now) work.old work.new) }
-    ensures carries { Carries ⟦<D as Depot>⟧ depot.old depot.new view.now.name.now (seen_in view.now) work.old work.new result }
+    ensures phase { work.new.state.phase ≡ work.old.state.phase }
+    ensures less { OnOk result (work.new.state.owed ≡ slice_set work.old.state.owed chunk false) }
+    ensures under_way { OnOk result
+        (StaysIn view.now (D.state depot.old) (D.state depot.new) work.old work.new) }
+    ensures carries { CarriesIn view.now (D.state depot.old) (D.state depot.new) work.old work.new result }
 {
     passes();
     determined();
@@ -147,10 +172,11 @@ fn pass_owed<D: Depot>(
 ) -> Result<(), Stop>
     requires view { IsViewOf work.old.catalogue view.now }
     requires sees { Sees work.old (seen_in view.now) }
-    ensures phase { work.new.entry.phase ≡ work.old.entry.phase }
-    ensures none { OnOk result (owes_any work.new.entry.owed ≡ false) }
-    ensures under_way { OnOk result (StaysUnderWay ⟦<D as Depot>⟧ depot.old depot.new view.now.name.now (seen_in view.now) work.old work.new) }
-    ensures carries { Carries ⟦<D as Depot>⟧ depot.old depot.new view.now.name.now (seen_in view.now) work.old work.new result }
+    ensures phase { work.new.state.phase ≡ work.old.state.phase }
+    ensures none { OnOk result (owes_any work.new.state.owed ≡ false) }
+    ensures under_way { OnOk result
+        (StaysIn view.now (D.state depot.old) (D.state depot.new) work.old work.new) }
+    ensures carries { CarriesIn view.now (D.state depot.old) (D.state depot.new) work.old work.new result }
 {
     let chunks = work.catalogue().chunks();
     let mut from = 0;
@@ -161,19 +187,18 @@ fn pass_owed<D: Depot>(
     Ok(())
 }
 
-/// Makes the phases of a job up to its end: each passes what the job owes, and turns it. The answer is the turn that ended it.
+/// Makes the phases of a job up to its end: each passes what the job owes, and turns it.
 fn make_phases<D: Depot>(
     alloc: Global,
     fetcher: &mut Fetcher,
     depot: &mut D,
     view: &View<'_>,
     work: &mut Work,
-) -> Result<Turned, Stop>
+) -> Result<End, Stop>
     requires view { IsViewOf work.old.catalogue view.now }
     requires sees { Sees work.old (seen_in view.now) }
-    ensures ended { IfOk result HasEnded }
-    ensures carries { Carries ⟦<D as Depot>⟧ depot.old depot.new view.now.name.now (seen_in view.now) work.old work.new result }
-    ensures turned { IfOk result (TurnsFor ⟦<D as Depot>⟧ depot.old depot.new view.now.name.now (seen_in view.now) work.old work.new) }
+    ensures carries { CarriesIn view.now (D.state depot.old) (D.state depot.new) work.old work.new result }
+    ensures ends { IfOk result (EndsIn view.now (D.state depot.old) (D.state depot.new) work.old work.new) }
 {
     turns();
     turns_end();
@@ -182,9 +207,8 @@ fn make_phases<D: Depot>(
     catalogues_are_over_their_edges();
     loop {
         pass_owed(alloc, fetcher, depot, view, work)?;
-        match work.turn() {
-            Turned::Owes => {}
-            ended => return Ok(ended),
+        if let Some(end) = end_of(work.turn()) {
+            return Ok(end);
         }
     }
 }
@@ -208,18 +232,16 @@ fn outcome_of_stop(cat: &Catalogue, stop: Stop) -> Result<Outcome, Memory>
     }
 }
 
-/// What became of a job that a turn ended.
-fn outcome_of_turn(turned: Turned, work: Work) -> Outcome
-    requires { HasEnded turned }
-    ensures { result ≡ outcome_of_turn work.entry.values turned }
+/// What became of a job that ended.
+fn outcome_of_end(end: End, work: Work) -> Outcome
+    ensures { result ≡ outcome_of_end work.state.values end }
 {
-    match turned {
-        Turned::Owes => unreachable!(),
-        Turned::Done { rounds } => Outcome::Done {
+    match end {
+        End::Done { rounds } => Outcome::Done {
             rounds,
             values: work.into_values(),
         },
-        Turned::Bound { bound } => Outcome::Rounds { bound },
+        End::Bound { bound } => Outcome::Rounds { bound },
     }
 }
 
@@ -236,20 +258,23 @@ pub(crate) fn run_job<D: Depot>(
     requires some { 1 ≤ most_rounds spec }
     requires view { IsViewOf (arc_value cat) view.now }
     requires over { IsSnapshotOver (arc_value cat).dimensions.n (seen_in view.now) }
-    ensures ends { (bytes : List ℕ) → TellsGrid (D.files depot.old) view.now.name.now (arc_value cat) bytes
-        → IfOk result (JobEnds (snapshot_view spec (arc_value cat) (edges_in bytes) (seen_in view.now)) (pass_reads (arc_value cat))
-        (depot_change ⟦<D as Depot>⟧ depot.old depot.new)) }
-    ensures few { (bytes : List ℕ) → TellsGrid (D.files depot.old) view.now.name.now (arc_value cat) bytes
-        → D.reads depot.new ≤ D.reads depot.old + run_weight (snapshot_view spec (arc_value cat) (edges_in bytes) (seen_in view.now)) (pass_reads (arc_value cat)) }
-    ensures faults { MatchResult result (FaultsFor (D.faults depot.old) (D.faults depot.new)) (λ _. D.faults depot.new ≡ D.faults depot.old) }
-    ensures frame { ReadsSome (depot_change ⟦<D as Depot>⟧ depot.old depot.new) }
+    ensures ends { (bytes : List ℕ)
+        → TellsGrid (D.state depot.old).files view.now.name.now (arc_value cat) bytes
+        → IfOk result (JobEnds (shown_view view.now spec (arc_value cat) bytes) (pass_reads (arc_value cat))
+        (D.state depot.old) (D.state depot.new)) }
+    ensures few { (bytes : List ℕ)
+        → TellsGrid (D.state depot.old).files view.now.name.now (arc_value cat) bytes
+        → ReadsUpTo (run_weight (shown_view view.now spec (arc_value cat) bytes) (pass_reads (arc_value cat)))
+        (D.state depot.old) (D.state depot.new) }
+    ensures faults { CountsOutcomes (D.state depot.old) (D.state depot.new) (λ outcome. outcome) result }
+    ensures frame { ReadsSome (D.state depot.old) (D.state depot.new) }
 {
     begins();
     weight_is_left();
     let overlays = view.own.overlays(alloc, &cat, view.versions)?;
     let mut work = Work::admit(alloc, view.own.job(), spec, cat, overlays)?;
     match make_phases(alloc, fetcher, depot, view, &mut work) {
-        Ok(turned) => Ok(outcome_of_turn(turned, work)),
+        Ok(end) => Ok(outcome_of_end(end, work)),
         Err(stop) => outcome_of_stop(work.catalogue(), stop),
     }
 }

@@ -2,13 +2,13 @@
 
 ghost use Rattle.std.specs.Prelude.{◌≡◌, ◌≤◌, ◌+◌, ℕ, List, [], length, IfOk, MatchResult};
 ghost use Rattle.std.specs.Arc.{arc_value};
-ghost use Rattle.gm_outside.specs.Calls.{depot_change};
-ghost use Rattle.gm_job_run.specs.JobRuns.{pass_reads, JobEnds, FaultsFor, ReadsSome};
+ghost use Rattle.gm_job_run.specs.JobRuns.{pass_reads, JobEnds, CountsOutcomes, ReadsSome};
 ghost use Rattle.gm_grid.specs.GridBytes.{edges_in};
 ghost use Rattle.gm_jobs.specs.JobBounds.{IsScriptOver};
 ghost use Rattle.gm_jobs.specs.StatedJobs.{jobs_of};
 ghost use Rattle.gm_source.specs.Fetches.{TellsGrid};
-ghost use Rattle.gm_job_run.specs.JobLines.{AreLinesOfJobs, IsTold, RunOver, FaultsOf, job_below, line_of_job, view_of_job, runs_weight};
+ghost use Rattle.gm_source.specs.Openings.{ReadsUpTo};
+ghost use Rattle.gm_job_run.specs.JobLines.{AreLinesOfJobs, IsTold, RunOver, FaultsOf, job_below, line_of_job, view_below, runs_weight};
 ghost use Rattle.gm_kernel.specs.Runs.{most_rounds};
 ghost use Rattle.gm_work.specs.Weights.{run_weight};
 ghost use Rattle.gm_versions.specs.Kept.{IsOf};
@@ -53,13 +53,15 @@ fn run_line<D: Depot>(
     requires versions { IsOf (arc_value cat) versions.now }
     requires over { IsSnapshotOver (arc_value cat).dimensions.n (snapshot_of (job_below versions.now job)) }
     ensures line { IfOk result (λ line. line ≡ line_of_job (job_below versions.now job) line.outcome) }
-    ensures ends { (bytes : List ℕ) → TellsGrid (D.files depot.old) grid.now (arc_value cat) bytes
-        → IfOk result (λ line. JobEnds (view_of_job (arc_value cat) (edges_in bytes) (job_below versions.now job)) (pass_reads (arc_value cat))
-        (depot_change ⟦<D as Depot>⟧ depot.old depot.new) line.outcome) }
-    ensures few { (bytes : List ℕ) → TellsGrid (D.files depot.old) grid.now (arc_value cat) bytes
-        → D.reads depot.new ≤ D.reads depot.old + run_weight (view_of_job (arc_value cat) (edges_in bytes) (job_below versions.now job)) (pass_reads (arc_value cat)) }
-    ensures faults { MatchResult result (λ line. FaultsFor (D.faults depot.old) (D.faults depot.new) line.outcome) (λ _. D.faults depot.new ≡ D.faults depot.old) }
-    ensures frame { ReadsSome (depot_change ⟦<D as Depot>⟧ depot.old depot.new) }
+    ensures ends { (bytes : List ℕ) → TellsGrid (D.state depot.old).files grid.now (arc_value cat) bytes
+        → IfOk result (λ line.
+        JobEnds (view_below (arc_value cat) bytes versions.now job) (pass_reads (arc_value cat))
+        (D.state depot.old) (D.state depot.new) line.outcome) }
+    ensures few { (bytes : List ℕ) → TellsGrid (D.state depot.old).files grid.now (arc_value cat) bytes
+        → ReadsUpTo (run_weight (view_below (arc_value cat) bytes versions.now job) (pass_reads (arc_value cat)))
+        (D.state depot.old) (D.state depot.new) }
+    ensures faults { CountsOutcomes (D.state depot.old) (D.state depot.new) (λ line. line.outcome) result }
+    ensures frame { ReadsSome (D.state depot.old) (D.state depot.new) }
 {
     let version = versions.count();
     let own = Own::new(job.number, version, job.own);
@@ -87,13 +89,19 @@ pub fn run_script<D: Depot>(
     script: Script,
 ) -> Result<Vec<JobLine>, Memory>
     requires over { IsScriptOver (arc_value cat.now).dimensions.n script }
-    ensures lines { IfOk result (λ lines. AreLinesOfJobs (λ job outcome. IsTold outcome) (jobs_of script) lines.items) }
-    ensures ends { (bytes : List ℕ) → TellsGrid (D.files depot.old) grid.now (arc_value cat.now) bytes
-        → IfOk result (λ lines. RunOver (arc_value cat.now) (edges_in bytes) (depot_change ⟦<D as Depot>⟧ depot.old depot.new) (jobs_of script) lines.items) }
-    ensures few { (bytes : List ℕ) → TellsGrid (D.files depot.old) grid.now (arc_value cat.now) bytes
-        → D.reads depot.new ≤ D.reads depot.old + runs_weight (arc_value cat.now) (edges_in bytes) (jobs_of script) }
-    ensures faults { IfOk result (λ lines. FaultsOf lines.items (D.faults depot.old) (D.faults depot.new)) }
-    ensures frame { ReadsSome (depot_change ⟦<D as Depot>⟧ depot.old depot.new) }
+    ensures lines { IfOk result (λ lines.
+        AreLinesOfJobs (λ job outcome. IsTold outcome) (jobs_of script) lines.items) }
+    ensures ends { (bytes : List ℕ)
+        → TellsGrid (D.state depot.old).files grid.now (arc_value cat.now) bytes
+        → IfOk result (λ lines. RunOver (arc_value cat.now) (edges_in bytes) (D.state depot.old) (D.state depot.new)
+        (jobs_of script) lines.items) }
+    ensures few { (bytes : List ℕ)
+        → TellsGrid (D.state depot.old).files grid.now (arc_value cat.now) bytes
+        → ReadsUpTo (runs_weight (arc_value cat.now) (edges_in bytes) (jobs_of script))
+        (D.state depot.old) (D.state depot.new) }
+    ensures faults { IfOk result (λ lines.
+        FaultsOf lines.items (D.state depot.old).faults (D.state depot.new).faults) }
+    ensures frame { ReadsSome (D.state depot.old) (D.state depot.new) }
 {
     let mut versions = Versions::new(alloc);
     let mut fetcher = Fetcher::new(alloc);

@@ -1,4 +1,3 @@
-pub mod Calls
 pub mod Causes
 pub mod CausesRules
 pub mod Changes
@@ -8,3 +7,4 @@ pub mod Frames
 pub mod FramesRules
 pub mod Growth
 pub mod GrowthRules
+pub mod States

@@ -1,6 +1,7 @@
 //! A depot over real files, which counts its reads and faults.
-ghost use Rattle.std.specs.Prelude.{◌≡◌, ◌≤◌, None, false};
+ghost use Rattle.std.specs.Prelude.{◌≡◌, ◌≤◌};
 ghost use Rattle.gm_outside.specs.Causes.{Rose};
+ghost use Rattle.gm_outside.specs.States.{untold};
 
 use crate::regular_files::RegularFiles;
 use crate::traits::{Depot, Trouble};
@@ -18,29 +19,30 @@ use std::rt::Files;
 #[derive(Drop)]
 pub struct FileDepot<R: Files> {
     files: RegularFiles<R>,
-    reads: u64,
     faults: u64,
     write_faults: u64,
+    reads: u64,
+    sizes: u64,
 }
 
 impl<R: Files + AllocGlobal + Drop> FileDepot<R> {
     /// A depot over the files of `rt`, with no call and no fault so far.
     pub fn new(rt: R) -> FileDepot<R>
-        ensures reads { ⟦<FileDepot<R> as Depot>⟧.reads result ≡ 0 }
-        ensures faults { ⟦<FileDepot<R> as Depot>⟧.faults result ≡ 0 }
-        ensures write_faults { ⟦<FileDepot<R> as Depot>⟧.write_faults result ≡ 0 }
+        ensures { ⟦<FileDepot<R> as Depot>⟧.state result ≡ untold 0 0 0 0 }
     {
         FileDepot {
             files: RegularFiles::new(rt),
-            reads: 0,
             faults: 0,
             write_faults: 0,
+            reads: 0,
+            sizes: 0,
         }
     }
 
     /// Counts an error as a fault, unless it is want of memory.
     fn count_fault(&mut self, error: io::Error) -> Trouble
         ensures reads { self.new.reads ≡ self.old.reads }
+        ensures sizes { self.new.sizes ≡ self.old.sizes }
         ensures write_faults { self.new.write_faults ≡ self.old.write_faults }
         ensures later { self.old.faults ≤ self.new.faults }
         ensures failed { result ≡ Trouble.Failed → Rose self.old.faults self.new.faults }
@@ -56,6 +58,7 @@ impl<R: Files + AllocGlobal + Drop> FileDepot<R> {
     /// The same for an error of a call that writes.
     fn count_write_fault(&mut self, error: io::Error) -> Trouble
         ensures reads { self.new.reads ≡ self.old.reads }
+        ensures sizes { self.new.sizes ≡ self.old.sizes }
         ensures later { self.old.faults ≤ self.new.faults }
         ensures write_later { self.old.write_faults ≤ self.new.write_faults }
         ensures failed { result ≡ Trouble.Failed → Rose self.old.faults self.new.faults }
@@ -72,19 +75,12 @@ impl<R: Files + AllocGlobal + Drop> FileDepot<R> {
 
 #[tactic(auto, using(crate::specs::ChangesRules::changes))]
 impl<R: Files + AllocGlobal + Drop> Depot for FileDepot<R> {
-    ghost files = { λ _. None };
-
-    ghost calm = { λ _. false };
-
-    ghost faults = { λ depot. depot.faults };
-
-    ghost reads = { λ depot. depot.reads };
-
-    ghost write_faults = { λ depot. depot.write_faults };
+    ghost state = { λ depot. untold depot.faults depot.write_faults depot.reads depot.sizes };
 
     ghost calm_tells = { λ _ h. h };
 
     fn size(&mut self, name: &str) -> Result<Option<u64>, Trouble> {
+        self.sizes = self.sizes.saturating_add(1);
         match self.files.size(name) {
             Ok(size) => Ok(size),
             Err(error) => Err(self.count_fault(error)),

@@ -1,10 +1,9 @@
 //! Reading the front of a file, from any depot.
 ghost use Rattle.std.specs.Prelude.{◌≡◌, ◌≤◌, length, take, IsTrue, IsErrOf, IfSome, IfOk, IsSomeAnd, vec_len};
 ghost use Rattle.std.specs.FinMap as map;
-ghost use Rattle.gm_outside.specs.Causes.{counted, HasExactCause};
+ghost use Rattle.gm_outside.specs.Causes.{counted};
 ghost use Rattle.gm_outside.specs.Files.{HasRange};
-ghost use Rattle.gm_outside.specs.Frames.{OnlyReads};
-ghost use Rattle.gm_outside.specs.Calls.{depot_change};
+ghost use Rattle.gm_outside.specs.Frames.{CountsFaults, OnlyReads};
 
 use crate::traits::{Depot, Trouble};
 use std::alloc::{AllocError, Global};
@@ -19,14 +18,14 @@ pub fn read_whole<D: Depot>(
     size: u64,
 ) -> Result<Vec<u8>, Trouble>
     ensures size { IfOk result (λ bytes. vec_len bytes ≡ size) }
-    ensures bytes { IfSome (D.files depot.old) (λ files. IfOk result (λ bytes. IsSomeAnd (map.get files name.now)
+    ensures bytes { IfSome (D.state depot.old).files (λ files. IfOk result (λ bytes. IsSomeAnd (map.get files name.now)
         (λ held. (size ≤ length held) × (bytes.items ≡ take size held)))) }
-    ensures cause { HasExactCause Trouble.Failed (D.faults depot.old) (D.faults depot.new) result }
-    ensures calm { IsTrue (D.calm depot.old)
-        → IfSome (D.files depot.old) (λ files. HasRange files name.now 0 size
+    ensures cause { CountsFaults (D.state depot.old) (D.state depot.new) result }
+    ensures calm { IsTrue (D.state depot.old).calm
+        → IfSome (D.state depot.old).files (λ files. HasRange files name.now 0 size
         → IsErrOf result Trouble.Failed → ⊥) }
-    ensures reads { OnlyReads 1 (depot_change ⟦<D as Depot>⟧ depot.old depot.new) }
-    ensures one_read { (IsErrOf result Trouble.Memory → ⊥) → D.reads depot.new ≡ counted (D.reads depot.old) }
+    ensures frame { OnlyReads 0 1 (D.state depot.old) (D.state depot.new) }
+    ensures one_read { (IsErrOf result Trouble.Memory → ⊥) → (D.state depot.new).reads ≡ counted (D.state depot.old).reads }
 {
     let mut bytes = zeros(alloc, size as usize)?;
     depot.read_at(name, 0, &mut bytes)?;

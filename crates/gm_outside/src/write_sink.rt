@@ -16,19 +16,14 @@ pub struct WriteSink<W> {
 impl<W: Write + Drop> WriteSink<W> {
     /// A sink without faults over this writer.
     pub fn new(writer: W) -> WriteSink<W>
-        ensures written { ⟦<WriteSink<W> as Sink>⟧.written result ≡ W.contents writer }
-        ensures faults { ⟦<WriteSink<W> as Sink>⟧.faults result ≡ 0 }
+        ensures { ⟦<WriteSink<W> as Sink>⟧.state result ≡ record { written = W.contents writer; faults = 0; lacks = 0 } }
     {
         WriteSink { writer, faults: 0 }
     }
 }
 
 impl<W: Write + Drop> Sink for WriteSink<W> {
-    ghost written = { λ sink. W.contents sink.writer };
-
-    ghost faults = { λ sink. sink.faults };
-
-    ghost lacks = { λ _. 0 };
+    ghost state = { λ sink. record { written = W.contents sink.writer; faults = sink.faults; lacks = 0 } };
 
     fn write(&mut self, piece: &[u8]) -> Result<(), Trouble> {
         if write_piece(&mut self.writer, piece).is_err() {

@@ -8,8 +8,7 @@ use Rattle.std.proofs.lemmas.List.{take_more, take-append-drop, take_all, drop_m
 use Rattle.std.proofs.lemmas.List.Elements.{All-append}
 use Rattle.std.proofs.lemmas.List.Sums.{sum_by-cons, sum_by-append, sum_by-take-le}
 use Rattle.std.proofs.lemmas.List.Concat.{flat_map-append}
-use Rattle.gm_outside.specs.declared.traits.Depot as Depot
-use Rattle.gm_outside.specs.Calls.{depot_change}
+use Rattle.gm_outside.specs.States.{DepotState}
 use Rattle.gm_outside.specs.Causes.{counted_times}
 use Rattle.gm_outside.specs.CausesRules.{counted_times-add}
 use Rattle.gm_outside.specs.Files.{Files}
@@ -273,24 +272,24 @@ chunk-in_range size k edges_at cat bytes at within sizes labelled =
     omega (arith, sizes.0, sizes.1)
 
 -- So many chunks were labelled by these calls.
-pub record Labels {D : Type 0} (g : Depot.Ghosts D) (old new : D) (name : List ℕ) (room buffer : List ℕ) (cat now : Catalogue) (block : Block) (k : ℕ) : Type 0 where
+pub record Labels (old new : DepotState) (name : List ℕ) (room buffer : List ℕ) (cat now : Catalogue) (block : Block) (k : ℕ) : Type 0 where
   pub is_block : IsBlock now.dimensions block
   pub cut : IsSameCut cat now
   pub fresh : IsFreshFrom k now
   pub room_kept : length buffer ≡ length room
-  pub frame : OnlyReads (reads_before cat.places k) (depot_change g old new)
-  pub served : g.faults new ≡ g.faults old
-  pub read : g.reads new ≡ counted_times (reads_before cat.places k) (g.reads old)
-  pub labelled : (size : ℕ) → IsTold (g.files old) name (HasLabelled size 0 cat) → IsTold (g.files old) name (HasLabelled size k now)
+  pub frame : OnlyReads 0 (reads_before cat.places k) old new
+  pub served : new.faults ≡ old.faults
+  pub read : new.reads ≡ counted_times (reads_before cat.places k) old.reads
+  pub labelled : (size : ℕ) → IsTold old.files name (HasLabelled size 0 cat) → IsTold old.files name (HasLabelled size k now)
 
-pub labels-none : {D : Type 0} (g : Depot.Ghosts D) (depot : D) (name room : List ℕ) (cat : Catalogue) (block : Block) → IsFreshFrom 0 cat → IsBlock cat.dimensions block
-    → Labels g depot depot name room room cat cat block 0
-labels-none g depot name room cat block fresh is = record {
+pub labels-none : (depot : DepotState) (name room : List ℕ) (cat : Catalogue) (block : Block) → IsFreshFrom 0 cat → IsBlock cat.dimensions block
+    → Labels depot depot name room room cat cat block 0
+labels-none depot name room cat block fresh is = record {
   is_block = is;
   cut = (refl, refl);
   fresh = fresh;
   room_kept = refl;
-  frame = only_reads-none g depot;
+  frame = only_reads-none depot;
   served = refl;
   read = refl;
   labelled = λ size told. told;
@@ -306,14 +305,14 @@ fresh-next : (k : ℕ) (cat next : Catalogue) → IsSetAt k cat next → IsFresh
 fresh-next k cat next set fresh c behind = set c (λ same. absurd (omega (arith, ap (λ (n : ℕ). n) same))) ∙ fresh c (omega arith)
 
 -- one more was
-pub labels-next : {D : Type 0} (g : Depot.Ghosts D) (old mid new : D) (name room buffer buffer_now : List ℕ) (cat now next : Catalogue) (block next_block : Block) (k : ℕ) → k < length cat.places
-    → Labels g old mid name room buffer cat now block k → IsBlock now.dimensions next_block
+pub labels-next : (old mid new : DepotState) (name room buffer buffer_now : List ℕ) (cat now next : Catalogue) (block next_block : Block) (k : ℕ) → k < length cat.places
+    → Labels old mid name room buffer cat now block k → IsBlock now.dimensions next_block
     → IsSameCut now next → IsSetAt k now next → length buffer_now ≡ length buffer
-    → OnlyReads (chunk_reads (place_at now k)) (depot_change g mid new) → g.faults new ≡ g.faults mid
-    → g.reads new ≡ counted_times (chunk_reads (place_at now k)) (g.reads mid)
-    → ((size : ℕ) → IsTold (g.files mid) name (HasLabelled size k now) → IsTold (g.files mid) name (HasLabelled size (k + 1) next))
-    → Labels g old new name room buffer_now cat next next_block (k + 1)
-labels-next g old mid new name room buffer buffer_now cat now next block next_block k within a is cut set long frame served read labelled =
+    → OnlyReads 0 (chunk_reads (place_at now k)) mid new → new.faults ≡ mid.faults
+    → new.reads ≡ counted_times (chunk_reads (place_at now k)) mid.reads
+    → ((size : ℕ) → IsTold mid.files name (HasLabelled size k now) → IsTold mid.files name (HasLabelled size (k + 1) next))
+    → Labels old new name room buffer_now cat next next_block (k + 1)
+labels-next old mid new name room buffer buffer_now cat now next block next_block k within a is cut set long frame served read labelled =
     let place : place_at now k ≡ get_or cat.places k no_place = ap (λ (ps : List Place). get_or ps k no_place) a.cut.1 in
     let more : reads_before cat.places k + chunk_reads (place_at now k) ≡ reads_before cat.places (k + 1) =
     ap (λ (p : Place). reads_before cat.places k + chunk_reads p) place ∙ sym (reads_before-next cat.places k within) in
@@ -322,33 +321,33 @@ labels-next g old mid new name room buffer buffer_now cat now next block next_bl
       cut = (cut.0 ∙ a.cut.0, cut.1 ∙ a.cut.1);
       fresh = fresh-next k now next set a.fresh;
       room_kept = long ∙ a.room_kept;
-      frame = subst (λ (n : ℕ). OnlyReads n (depot_change g old new)) more
-          (only_reads-then g old mid new (reads_before cat.places k) (chunk_reads (place_at now k)) a.frame frame);
+      frame = subst (λ (n : ℕ). OnlyReads 0 n old new) more
+          (only_reads-then 0 (reads_before cat.places k) 0 (chunk_reads (place_at now k)) old mid new a.frame frame);
       served = served ∙ a.served;
       read =
           read
           ∙ ap (counted_times (chunk_reads (place_at now k))) a.read
-          ∙ sym (counted_times-add (reads_before cat.places k) (chunk_reads (place_at now k)) (g.reads old))
-          ∙ ap (λ (n : ℕ). counted_times n (g.reads old)) more;
+          ∙ sym (counted_times-add (reads_before cat.places k) (chunk_reads (place_at now k)) old.reads)
+          ∙ ap (λ (n : ℕ). counted_times n old.reads) more;
       labelled = λ size told.
-          subst (λ (f : Option Files). IsTold f name (HasLabelled size (k + 1) next)) a.frame.files_kept
-          (labelled size (subst (λ (f : Option Files). IsTold f name (HasLabelled size k now)) (sym a.frame.files_kept) (a.labelled size told)));
+          subst (λ (f : Option Files). IsTold f name (HasLabelled size (k + 1) next)) a.frame.files
+          (labelled size (subst (λ (f : Option Files). IsTold f name (HasLabelled size k now)) (sym a.frame.files) (a.labelled size told)));
     }
 
 -- a chunk gave up behind others
-pub labels-refused : {D X : Type 0} (g : Depot.Ghosts D) (old mid new : D) (size : ℕ) (name room buffer : List ℕ) (cat now : Catalogue) (block : Block) (k : ℕ)
-    (result : Result X OpenError) → k < length cat.places → Labels g old mid name room buffer cat now block k → IsTold (g.files old) name (HasLabelled size 0 cat)
-    → ((told : IsTold (g.files mid) name (HasLabelled size k now)) → OpensBy (chunk_reads (place_at now k)) size name (depot_change g mid new) result)
-    → OpensBy (sum_by chunk_reads cat.places) size name (depot_change g old new) result
-labels-refused g old mid new size name room buffer cat now block k result within a told opens =
+pub labels-refused : {X : Type 0} (old mid new : DepotState) (size : ℕ) (name room buffer : List ℕ) (cat now : Catalogue) (block : Block) (k : ℕ)
+    (result : Result X OpenError) → k < length cat.places → Labels old mid name room buffer cat now block k → IsTold old.files name (HasLabelled size 0 cat)
+    → ((told : IsTold mid.files name (HasLabelled size k now)) → OpensBy 0 (chunk_reads (place_at now k)) size name mid new result)
+    → OpensBy 0 (sum_by chunk_reads cat.places) size name old new result
+labels-refused old mid new size name room buffer cat now block k result within a told opens =
     let place : place_at now k ≡ get_or cat.places k no_place = ap (λ (ps : List Place). get_or ps k no_place) a.cut.1 in
     let more : reads_before cat.places k + chunk_reads (place_at now k) ≡ reads_before cat.places (k + 1) =
     ap (λ (p : Place). reads_before cat.places k + chunk_reads p) place ∙ sym (reads_before-next cat.places k within) in
     let few = sum_by-take-le chunk_reads cat.places (k + 1) in
-    opens_by-more g old new (reads_before cat.places k + chunk_reads (place_at now k)) (sum_by chunk_reads cat.places) size name result (omega arith)
-    (opens_by-then g old mid new (reads_before cat.places k) (chunk_reads (place_at now k)) size name (tt {0}) result
-    (opens_by-served g old mid (reads_before cat.places k) size name (tt {0}) a.frame a.served)
-    (opens (subst (λ (f : Option Files). IsTold f name (HasLabelled size k now)) (sym a.frame.files_kept) (a.labelled size told))))
+    opens_by-more old new (reads_before cat.places k + chunk_reads (place_at now k)) (sum_by chunk_reads cat.places) size name result (omega arith)
+    (opens_by-then old mid new (reads_before cat.places k) (chunk_reads (place_at now k)) size name (tt {0}) result
+    (opens_by-served old mid (reads_before cat.places k) size name (tt {0}) a.frame a.served)
+    (opens (subst (λ (f : Option Files). IsTold f name (HasLabelled size k now)) (sym a.frame.files) (a.labelled size told))))
 
 no_labels : (places : List Place) (c : ℕ) → get_or (map (λ (place : Place). no_pairs) places) c no_pairs ≡ no_pairs
 no_labels [] c = refl

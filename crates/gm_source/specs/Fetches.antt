@@ -7,15 +7,16 @@ use Rattle.gm_base.specs.Dimensions.{block_of}
 use Rattle.gm_base.specs.Graph.{HasEndsBelow}
 use Rattle.gm_outside.specs.declared.traits.Trouble.{Trouble}
 use Rattle.gm_outside.specs.declared.traits.Trouble.TheVariants as troubles
-use Rattle.gm_outside.specs.Causes.{counted_times, HasExactCause}
+use Rattle.gm_outside.specs.Causes.{HasExactCause}
 use Rattle.gm_outside.specs.Files.{Files, HasBytesAt}
-use Rattle.gm_outside.specs.Frames.{DepotChange, OnlyReads}
+use Rattle.gm_outside.specs.Frames.{OnlyReads}
+use Rattle.gm_outside.specs.States.{DepotState}
 use Rattle.gm_grid.specs.Format.{is_in_block}
 use Rattle.gm_grid.specs.GridBytes.{edges_of_bytes, edges_in, index_end}
 use Rattle.gm_label.specs.declared.chunk.Raw.{Raw}
 use Rattle.gm_label.specs.Labels.{label_of}
 use Rattle.gm_label.specs.Catalogues.{Catalogue, place_at, label_at, base_at}
-use Rattle.gm_source.specs.Openings.{IsCatalogueOf, Decodes, chunk_reads}
+use Rattle.gm_source.specs.Openings.{IsCatalogueOf, Decodes, ReadsJust, chunk_reads}
 use Rattle.gm_source.specs.declared.fetching.Found.{Found}
 use Rattle.gm_source.specs.declared.fetching.Found.TheVariants.{Stray, Labels}
 use Rattle.gm_source.specs.declared.fetching.FetchError.{FetchError}
@@ -86,13 +87,13 @@ pub record IsUnchanged (bytes : List ℕ) (cat : Catalogue) (c : ℕ) (kept : Li
   pub label : label_of kept ≡ label_at cat c
 
 -- a call that fetches a chunk, by the catalogue of the grid in the file of this name
-pub record Fetches (name : List ℕ) (cat : Catalogue) (c : ℕ) (depot : DepotChange) (result : Result Raw FetchError) : Type 0 where
+pub record Fetches (name : List ℕ) (cat : Catalogue) (c : ℕ) (old new : DepotState) (result : Result Raw FetchError) : Type 0 where
   pub ok : IfOk result (FitsCatalogue cat c)
-  pub from : IfOk result (λ raw. WasRead depot.files name cat c raw.edges)
-  pub told : (bytes : List ℕ) → TellsGrid depot.files name cat bytes → IfOk result (λ raw. raw.edges ≡ base_at cat (edges_in bytes) c)
-  pub changed : (found : Found) → IsErrOf result (Changed found) → WasFound depot.files name cat c found
-  pub unchanged : (bytes : List ℕ) (found : Found) → TellsGrid depot.files name cat bytes → IsErrOf result (Changed found) → ⊥
-  pub cause : HasExactCause Fault depot.faults depot.faults_now result
-  pub calm : (bytes : List ℕ) → IsTrue depot.calm → TellsGrid depot.files name cat bytes → IsErrOf result Fault → ⊥
-  pub read : (IsErrOf result Memory → ⊥) → depot.reads_now ≡ counted_times (chunk_reads (place_at cat c)) depot.reads
-  pub frame : OnlyReads (chunk_reads (place_at cat c)) depot
+  pub from : IfOk result (λ raw. WasRead old.files name cat c raw.edges)
+  pub told : (bytes : List ℕ) → TellsGrid old.files name cat bytes → IfOk result (λ raw. raw.edges ≡ base_at cat (edges_in bytes) c)
+  pub changed : (found : Found) → IsErrOf result (Changed found) → WasFound old.files name cat c found
+  pub unchanged : (bytes : List ℕ) (found : Found) → TellsGrid old.files name cat bytes → IsErrOf result (Changed found) → ⊥
+  pub cause : HasExactCause Fault old.faults new.faults result
+  pub calm : (bytes : List ℕ) → IsTrue old.calm → TellsGrid old.files name cat bytes → IsErrOf result Fault → ⊥
+  pub read : (IsErrOf result Memory → ⊥) → ReadsJust (chunk_reads (place_at cat c)) old new
+  pub frame : OnlyReads 0 (chunk_reads (place_at cat c)) old new

@@ -7,9 +7,10 @@ use Rattle.gm_base.specs.declared.limits.TheConstants.{MAX_CHUNKS}
 use Rattle.gm_base.specs.Dimensions.{Dimensions}
 use Rattle.gm_outside.specs.declared.traits.Trouble.{Trouble}
 use Rattle.gm_outside.specs.declared.traits.Trouble.TheVariants as troubles
-use Rattle.gm_outside.specs.Causes.{HasExactCause}
+use Rattle.gm_outside.specs.Causes.{HasExactCause, counted_times}
 use Rattle.gm_outside.specs.Files.{Files}
-use Rattle.gm_outside.specs.Frames.{DepotChange, OnlyReads}
+use Rattle.gm_outside.specs.Frames.{OnlyReads}
+use Rattle.gm_outside.specs.States.{DepotState}
 use Rattle.gm_grid.specs.declared.grid_error.GridError.TheVariants as grid_errors
 use Rattle.gm_grid.specs.declared.grid_error.IndexError.{IndexError}
 use Rattle.gm_grid.specs.declared.grid_error.IndexError.TheVariants as index_errors
@@ -67,13 +68,21 @@ abbrev pub IsRefusedIn : {T : Type 0} → ℕ → Option (List ℕ) → Result T
 IsRefusedIn size found (Ok value) = Unit {0}
 IsRefusedIn size found (Err error) = IsRefusedWith size found error
 
--- A call that reads a file of this name by at most so many reads, to open it with chunks of this size. It fails only where the depot did,
--- never over a calm one, and refuses the file only for its first reason.
-pub record OpensBy {T : Type 0} (most size : ℕ) (name : List ℕ) (depot : DepotChange) (result : Result T OpenError) : Type 0 where
-  pub frame : OnlyReads most depot
-  pub fault : HasExactCause Fault depot.faults depot.faults_now result
-  pub calm : IsTrue depot.calm → IsErrOf result Fault → ⊥
-  pub refused : IfSome depot.files (λ held. IsRefusedIn size (get held name) result)
+-- A call that reads a file of this name by at most so many reads, and asks for its size so often, to open it with chunks of this size. It fails
+-- only where the depot did, never over a calm one, and refuses the file only for its first reason.
+pub record OpensBy {T : Type 0} (asked most size : ℕ) (name : List ℕ) (old new : DepotState) (result : Result T OpenError) : Type 0 where
+  pub frame : OnlyReads asked most old new
+  pub fault : HasExactCause Fault old.faults new.faults result
+  pub calm : IsTrue old.calm → IsErrOf result Fault → ⊥
+  pub refused : IfSome old.files (λ held. IsRefusedIn size (get held name) result)
+
+-- the depot was read just so often
+abbrev pub ReadsJust : ℕ → DepotState → DepotState → Type 0
+ReadsJust count old new = new.reads ≡ counted_times count old.reads
+
+-- .. at most so often
+abbrev pub ReadsUpTo : ℕ → DepotState → DepotState → Type 0
+ReadsUpTo most old new = new.reads ≤ old.reads + most
 
 abbrev pub AreBytes : List ℕ → Type 0
 AreBytes bytes = All (λ byte. byte < 256) bytes

@@ -2,14 +2,12 @@
 
 ghost use Rattle.std.specs.Prelude.{◌≡◌, ◌+◌, ◌*◌, ◌<◌, ◌≤◌, ℕ, List, length, All, IsTrue, IsErrOf, IfOk, OnOk};
 ghost use Rattle.gm_base.specs.declared.limits.TheConstants.{MAX_EDGES};
-ghost use Rattle.gm_outside.specs.Calls.{depot_change};
-ghost use Rattle.gm_outside.specs.Causes.{counted_times, HasExactCause};
-ghost use Rattle.gm_outside.specs.Frames.{OnlyReads};
+ghost use Rattle.gm_outside.specs.Frames.{OnlyReads, CountsFaults};
 ghost use Rattle.gm_grid.specs.GridBytes.{index_end};
 ghost use Rattle.gm_label.specs.Labels.{label_of};
 ghost use Rattle.gm_label.specs.Catalogues.{place_at, label_at};
 ghost use Rattle.gm_source.specs.declared.fetching.FetchError.TheVariants as FetchErrors;
-ghost use Rattle.gm_source.specs.Openings.{chunk_reads};
+ghost use Rattle.gm_source.specs.Openings.{ReadsJust, chunk_reads};
 ghost use Rattle.gm_source.specs.Fetches.{TellsGrid, Fetches, LiesInChunk, Differs, ReadsChunk, IsUnchanged, fetch_error_of};
 
 use crate::reading::{read_edges, widen};
@@ -78,15 +76,15 @@ fn read_chunk<D: Depot>(
     edges: &mut Vec<Edge>,
 ) -> Result<Option<Edge>, Trouble>
     requires { chunk < length cat.now.places }
-    ensures frame { OnlyReads (chunk_reads (place_at cat.now chunk)) (depot_change ⟦<D as Depot>⟧ depot.old depot.new) }
-    ensures reads { IfOk result (λ stray. ReadsChunk (D.files depot.old) name.now cat.now chunk edges.new.items stray) }
-    ensures told { (bytes : List ℕ) → TellsGrid (D.files depot.old) name.now cat.now bytes
+    ensures frame { OnlyReads 0 (chunk_reads (place_at cat.now chunk)) (D.state depot.old) (D.state depot.new) }
+    ensures reads { IfOk result (λ stray. ReadsChunk (D.state depot.old).files name.now cat.now chunk edges.new.items stray) }
+    ensures told { (bytes : List ℕ) → TellsGrid (D.state depot.old).files name.now cat.now bytes
         → IfOk result (λ stray. IsUnchanged bytes cat.now chunk edges.new.items stray) }
-    ensures cause { HasExactCause Trouble.Failed (D.faults depot.old) (D.faults depot.new) result }
-    ensures calm { (bytes : List ℕ) → IsTrue (D.calm depot.old) → TellsGrid (D.files depot.old) name.now cat.now bytes
+    ensures cause { CountsFaults (D.state depot.old) (D.state depot.new) result }
+    ensures calm { (bytes : List ℕ) → IsTrue (D.state depot.old).calm → TellsGrid (D.state depot.old).files name.now cat.now bytes
         → IsErrOf result Trouble.Failed → ⊥ }
     ensures read { (IsErrOf result Trouble.Memory → ⊥)
-        → D.reads depot.new ≡ counted_times (chunk_reads (place_at cat.now chunk)) (D.reads depot.old) }
+        → ReadsJust (chunk_reads (place_at cat.now chunk)) (D.state depot.old) (D.state depot.new) }
 {
     grid_reads_back();
     let place = cat.chunk(chunk);
@@ -182,7 +180,7 @@ impl Fetcher {
         name: &str,
     ) -> Result<Raw, FetchError>
         requires { chunk < length cat.now.places }
-        ensures { Fetches name.now cat.now chunk (depot_change ⟦<D as Depot>⟧ depot.old depot.new) result }
+        ensures { Fetches name.now cat.now chunk (D.state depot.old) (D.state depot.new) result }
     {
         let first = cat.chunk(chunk).first;
         let (buffer, edges) = (&mut self.buffer, &mut self.edges);
@@ -216,7 +214,7 @@ pub fn fetch<D: Depot>(
     chunk: u32,
 ) -> Result<Raw, FetchError>
     requires { chunk < length cat.now.places }
-    ensures { Fetches name.now cat.now chunk (depot_change ⟦<D as Depot>⟧ depot.old depot.new) result }
+    ensures { Fetches name.now cat.now chunk (D.state depot.old) (D.state depot.new) result }
 {
     Fetcher::new(alloc).fetch(cat, chunk, depot, name)
 }

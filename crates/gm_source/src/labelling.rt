@@ -4,13 +4,11 @@ ghost use Rattle.std.specs.Prelude.{◌≡◌, ◌+◌, ◌*◌, ◌<◌, ◌≤
 ghost use Rattle.gm_base.specs.Dimensions.{block_of};
 ghost use Rattle.gm_base.specs.Graph.{HasEndsBelow};
 ghost use Rattle.gm_base.specs.declared.limits.TheConstants.{MAX_CHUNK_SIZE, MAX_PARTS};
-ghost use Rattle.gm_outside.specs.Calls.{depot_change};
-ghost use Rattle.gm_outside.specs.Causes.{counted_times};
 ghost use Rattle.gm_outside.specs.Frames.{OnlyReads};
 ghost use Rattle.gm_grid.specs.GridBytes.{index_end};
 ghost use Rattle.gm_label.specs.Catalogues.{place_at, label_at, with_label};
 ghost use Rattle.gm_label.specs.Labels.{label_of};
-ghost use Rattle.gm_source.specs.Openings.{OpensBy, IsTold, HasLabelled, IsBlock, IsSameCut, IsSetAt, IsFreshFrom, IsPlanned, chunk_reads};
+ghost use Rattle.gm_source.specs.Openings.{OpensBy, ReadsJust, IsTold, HasLabelled, IsBlock, IsSameCut, IsSetAt, IsFreshFrom, IsPlanned, chunk_reads};
 
 use crate::OpenError;
 use crate::reading::{read_edges, zeros};
@@ -104,13 +102,13 @@ fn label_chunk<D: Depot>(
     ensures cut { IsSameCut cat.old cat.new }
     ensures room { length buffer.new ≡ length buffer.old }
     ensures set { OnOk result (IsSetAt chunk cat.old cat.new) }
-    ensures labelled { (size : ℕ) → IsTold (D.files depot.old) name.now (HasLabelled size chunk cat.old)
-        → OnOk result (IsTold (D.files depot.old) name.now (HasLabelled size (chunk + 1) cat.new)) }
-    ensures opens { (size : ℕ) → IsTold (D.files depot.old) name.now (HasLabelled size chunk cat.old)
-        → OpensBy (chunk_reads (place_at cat.old chunk)) size name.now (depot_change ⟦<D as Depot>⟧ depot.old depot.new) result }
-    ensures served { OnOk result (D.faults depot.new ≡ D.faults depot.old) }
-    ensures frame { OnlyReads (chunk_reads (place_at cat.old chunk)) (depot_change ⟦<D as Depot>⟧ depot.old depot.new) }
-    ensures read { OnOk result (D.reads depot.new ≡ counted_times (chunk_reads (place_at cat.old chunk)) (D.reads depot.old)) }
+    ensures labelled { (size : ℕ) → IsTold (D.state depot.old).files name.now (HasLabelled size chunk cat.old)
+        → OnOk result (IsTold (D.state depot.old).files name.now (HasLabelled size (chunk + 1) cat.new)) }
+    ensures opens { (size : ℕ) → IsTold (D.state depot.old).files name.now (HasLabelled size chunk cat.old)
+        → OpensBy 0 (chunk_reads (place_at cat.old chunk)) size name.now (D.state depot.old) (D.state depot.new) result }
+    ensures served { OnOk result ((D.state depot.new).faults ≡ (D.state depot.old).faults) }
+    ensures frame { OnlyReads 0 (chunk_reads (place_at cat.old chunk)) (D.state depot.old) (D.state depot.new) }
+    ensures read { OnOk result (ReadsJust (chunk_reads (place_at cat.old chunk)) (D.state depot.old) (D.state depot.new)) }
 {
     let place = cat.chunk(chunk);
     let here = &mut buffer[..12 * place.length as usize];
@@ -144,11 +142,11 @@ pub(crate) fn label_chunks<D: Depot>(
     requires near { edges_at ≤ 16 + 8 * (MAX_PARTS * MAX_PARTS) }
     requires room { (c : ℕ) → 12 * (place_at cat.old c).count ≤ length buffer.old }
     ensures cut { IsSameCut cat.old cat.new }
-    ensures labelled { (size : ℕ) → IsTold (D.files depot.old) name.now (HasLabelled size 0 cat.old)
-        → OnOk result (IsTold (D.files depot.old) name.now (HasLabelled size (length cat.old.places) cat.new)) }
-    ensures opens { (size : ℕ) → IsTold (D.files depot.old) name.now (HasLabelled size 0 cat.old)
-        → OpensBy (sum_by chunk_reads cat.old.places) size name.now (depot_change ⟦<D as Depot>⟧ depot.old depot.new) result }
-    ensures read { OnOk result (D.reads depot.new ≡ counted_times (sum_by chunk_reads cat.old.places) (D.reads depot.old)) }
+    ensures labelled { (size : ℕ) → IsTold (D.state depot.old).files name.now (HasLabelled size 0 cat.old)
+        → OnOk result (IsTold (D.state depot.old).files name.now (HasLabelled size (length cat.old.places) cat.new)) }
+    ensures opens { (size : ℕ) → IsTold (D.state depot.old).files name.now (HasLabelled size 0 cat.old)
+        → OpensBy 0 (sum_by chunk_reads cat.old.places) size name.now (D.state depot.old) (D.state depot.new) result }
+    ensures read { OnOk result (ReadsJust (sum_by chunk_reads cat.old.places) (D.state depot.old) (D.state depot.new)) }
 {
     let _vertices = cat.shape().n();
     let mut block = Block::of(cat, 0);
@@ -172,11 +170,11 @@ pub(crate) fn label_plan<D: Depot>(
     requires planned { IsPlanned chunk_size cat.old }
     requires short { chunk_size ≤ MAX_CHUNK_SIZE }
     ensures cut { IsSameCut cat.old cat.new }
-    ensures labelled { IsTold (D.files depot.old) name.now (HasLabelled chunk_size 0 cat.old)
-        → OnOk result (IsTold (D.files depot.old) name.now (HasLabelled chunk_size (length cat.old.places) cat.new)) }
-    ensures opens { IsTold (D.files depot.old) name.now (HasLabelled chunk_size 0 cat.old)
-        → OpensBy (sum_by chunk_reads cat.old.places) chunk_size name.now (depot_change ⟦<D as Depot>⟧ depot.old depot.new) result }
-    ensures read { OnOk result (D.reads depot.new ≡ counted_times (sum_by chunk_reads cat.old.places) (D.reads depot.old)) }
+    ensures labelled { IsTold (D.state depot.old).files name.now (HasLabelled chunk_size 0 cat.old)
+        → OnOk result (IsTold (D.state depot.old).files name.now (HasLabelled chunk_size (length cat.old.places) cat.new)) }
+    ensures opens { IsTold (D.state depot.old).files name.now (HasLabelled chunk_size 0 cat.old)
+        → OpensBy 0 (sum_by chunk_reads cat.old.places) chunk_size name.now (D.state depot.old) (D.state depot.new) result }
+    ensures read { OnOk result (ReadsJust (sum_by chunk_reads cat.old.places) (D.state depot.old) (D.state depot.new)) }
 {
     let edges_at = 16 + index_size(cat.shape()) as u64;
     let mut buffer = zeros(alloc, 12 * chunk_size as usize)?;

@@ -4,13 +4,12 @@ ghost use Rattle.std.specs.Prelude.{◌≡◌, ◌+◌, ◌≤◌, ◌*◌, ℕ,
 ghost use Rattle.std.specs.FinMap.{get};
 ghost use Rattle.std.specs.Result.{result_err};
 ghost use Rattle.gm_base.specs.declared.limits.TheConstants.{MAX_CHUNKS, MAX_CHUNK_SIZE, MAX_EDGES};
-ghost use Rattle.gm_outside.specs.Calls.{depot_change};
-ghost use Rattle.gm_outside.specs.Causes.{counted, counted_times};
+ghost use Rattle.gm_outside.specs.Causes.{counted_times};
 ghost use Rattle.gm_grid.specs.GridBytes.{counts_in, counts_of_index, index_end, index_size, shape_of_head};
 ghost use Rattle.gm_grid.specs.GridRefusals.{refusal_by_head, refusal_by_index, refusal_by_chunks};
 ghost use Rattle.gm_label.specs.Chunks.{chunks_of};
 ghost use Rattle.gm_label.specs.Catalogues.{unlabelled};
-ghost use Rattle.gm_source.specs.Openings.{OpensBy, IsTold, HasHead, HasIndex, HasLabelled, IsPlanned, IsRefusedByIndex, IsRefusedByChunks, IsCatalogueOf, file_reads, opening_reads};
+ghost use Rattle.gm_source.specs.Openings.{OpensBy, ReadsJust, ReadsUpTo, IsTold, HasHead, HasIndex, HasLabelled, IsPlanned, IsRefusedByIndex, IsRefusedByChunks, IsCatalogueOf, file_reads, opening_reads};
 
 use crate::OpenError;
 use crate::labelling::label_plan;
@@ -25,9 +24,9 @@ use std::alloc::Global;
 /// How many bytes the file has.
 #[tactic(auto, using(crate::specs::OpeningsRules::openings))]
 fn file_size<D: Depot>(depot: &mut D, name: &str) -> Result<u64, OpenError>
-    ensures size { IfOk result (λ size. IsTold (D.files depot.old) name.now (λ bytes. length bytes ≡ size)) }
-    ensures unread { D.reads depot.new ≡ D.reads depot.old }
-    ensures opens { (chunk_size : ℕ) → OpensBy 0 chunk_size name.now (depot_change ⟦<D as Depot>⟧ depot.old depot.new) result }
+    ensures size { IfOk result (λ size. IsTold (D.state depot.old).files name.now (λ bytes. length bytes ≡ size)) }
+    ensures unread { (D.state depot.new).reads ≡ (D.state depot.old).reads }
+    ensures opens { (chunk_size : ℕ) → OpensBy 1 0 chunk_size name.now (D.state depot.old) (D.state depot.new) result }
 {
     match depot.size(name) {
         Ok(Some(size)) => Ok(size),
@@ -55,11 +54,11 @@ fn check_head(head: &[u8; 16], size: u64) -> Result<Shape, GridError>
 
 /// The shape that the head of a file of so many bytes tells.
 fn read_shape<D: Depot>(depot: &mut D, name: &str, size: u64) -> Result<Shape, OpenError>
-    requires size { IsTold (D.files depot.old) name.now (λ bytes. length bytes ≡ size) }
-    ensures head { IfOk result (λ shape. IsTold (D.files depot.old) name.now (HasHead shape)) }
+    requires size { IsTold (D.state depot.old).files name.now (λ bytes. length bytes ≡ size) }
+    ensures head { IfOk result (λ shape. IsTold (D.state depot.old).files name.now (HasHead shape)) }
     ensures long { IfOk result (λ shape. index_end shape ≤ size) }
-    ensures read { OnOk result (D.reads depot.new ≡ counted (D.reads depot.old)) }
-    ensures opens { (chunk_size : ℕ) → OpensBy 1 chunk_size name.now (depot_change ⟦<D as Depot>⟧ depot.old depot.new) result }
+    ensures read { OnOk result (ReadsJust 1 (D.state depot.old) (D.state depot.new)) }
+    ensures opens { (chunk_size : ℕ) → OpensBy 0 1 chunk_size name.now (D.state depot.old) (D.state depot.new) result }
 {
     if size < 16 {
         return Err(OpenError::Grid(GridError::BadSize {
@@ -106,12 +105,12 @@ fn read_counts<D: Depot>(
     shape: &Shape,
     size: u64,
 ) -> Result<Index, OpenError>
-    requires size { IsTold (D.files depot.old) name.now (λ bytes. length bytes ≡ size) }
-    requires head { IsTold (D.files depot.old) name.now (HasHead shape.now) }
-    ensures index { IfOk result (λ index. IsTold (D.files depot.old) name.now (HasIndex shape.now index)) }
+    requires size { IsTold (D.state depot.old).files name.now (λ bytes. length bytes ≡ size) }
+    requires head { IsTold (D.state depot.old).files name.now (HasHead shape.now) }
+    ensures index { IfOk result (λ index. IsTold (D.state depot.old).files name.now (HasIndex shape.now index)) }
     ensures blocks { IfOk result (λ index. length index ≡ shape.now.parts * shape.now.parts) }
-    ensures read { OnOk result (D.reads depot.new ≡ counted (D.reads depot.old)) }
-    ensures opens { (chunk_size : ℕ) → OpensBy 1 chunk_size name.now (depot_change ⟦<D as Depot>⟧ depot.old depot.new) result }
+    ensures read { OnOk result (ReadsJust 1 (D.state depot.old) (D.state depot.new)) }
+    ensures opens { (chunk_size : ℕ) → OpensBy 0 1 chunk_size name.now (D.state depot.old) (D.state depot.new) result }
 {
     let mut bytes = zeros(alloc, index_size(shape))?;
     depot.read_at(name, 16, &mut bytes)?;
@@ -130,10 +129,10 @@ fn read_plan<D: Depot>(
     chunk_size: u32,
 ) -> Result<Catalogue, OpenError>
     requires { (1 ≤ chunk_size) × (chunk_size ≤ MAX_CHUNK_SIZE) }
-    ensures planned { IfOk result (λ cat. IsTold (D.files depot.old) name.now (HasLabelled chunk_size 0 cat)) }
+    ensures planned { IfOk result (λ cat. IsTold (D.state depot.old).files name.now (HasLabelled chunk_size 0 cat)) }
     ensures chunks { IfOk result (IsPlanned chunk_size) }
-    ensures read { OnOk result (D.reads depot.new ≡ counted_times 2 (D.reads depot.old)) }
-    ensures opens { OpensBy 2 chunk_size name.now (depot_change ⟦<D as Depot>⟧ depot.old depot.new) result }
+    ensures read { OnOk result (ReadsJust 2 (D.state depot.old) (D.state depot.new)) }
+    ensures opens { OpensBy 1 2 chunk_size name.now (D.state depot.old) (D.state depot.new) result }
 {
     let size = file_size(depot, name)?;
     let shape = read_shape(depot, name, size)?;
@@ -158,11 +157,11 @@ pub fn open_grid<D: Depot>(
 ) -> Result<Catalogue, OpenError>
     requires some { 1 ≤ chunk_size }
     requires short { chunk_size ≤ MAX_CHUNK_SIZE }
-    ensures catalogue { IfOk result (λ cat. IsTold (D.files depot.old) name.now (λ bytes. IsCatalogueOf bytes chunk_size cat)) }
-    ensures opens { OpensBy (2 + MAX_CHUNKS) chunk_size name.now (depot_change ⟦<D as Depot>⟧ depot.old depot.new) result }
-    ensures read { IfOk result (λ cat. D.reads depot.new ≡ counted_times (opening_reads cat.places) (D.reads depot.old)) }
-    ensures few_reads { IfSome (D.files depot.old) (λ held. IfSome (get held name.now)
-        (λ bytes. D.reads depot.new ≤ D.reads depot.old + file_reads chunk_size bytes)) }
+    ensures catalogue { IfOk result (λ cat. IsTold (D.state depot.old).files name.now (λ bytes. IsCatalogueOf bytes chunk_size cat)) }
+    ensures opens { OpensBy 1 (2 + MAX_CHUNKS) chunk_size name.now (D.state depot.old) (D.state depot.new) result }
+    ensures read { IfOk result (λ cat. ReadsJust (opening_reads cat.places) (D.state depot.old) (D.state depot.new)) }
+    ensures few_reads { IfSome (D.state depot.old).files (λ held. IfSome (get held name.now)
+        (λ bytes. ReadsUpTo (file_reads chunk_size bytes) (D.state depot.old) (D.state depot.new))) }
 {
     refused_where_no_grid();
     grid_reads_back();

@@ -1,13 +1,11 @@
 //! Reading the edges of a chunk.
 
 ghost use Rattle.std.specs.Prelude.{◌≡◌, ◌<◌, ◌≤◌, length, min, map, IsTrue, IsErrOf, IfSome, IfOk, OnOk, vec_len};
-ghost use Rattle.gm_outside.specs.Calls.{depot_change};
-ghost use Rattle.gm_outside.specs.Causes.{counted_times, HasExactCause};
 ghost use Rattle.gm_outside.specs.Files.{HasRange, HasBytesAt};
-ghost use Rattle.gm_outside.specs.Frames.{OnlyReads};
+ghost use Rattle.gm_outside.specs.Frames.{OnlyReads, CountsFaults};
 ghost use Rattle.gm_grid.specs.Format.{is_within};
 ghost use Rattle.gm_grid.specs.GridBytes.{edge_of_bytes, edges_of_bytes};
-ghost use Rattle.gm_source.specs.Openings.{AreBytes, Decodes};
+ghost use Rattle.gm_source.specs.Openings.{AreBytes, Decodes, ReadsJust};
 
 use gm_base::Edge;
 use gm_grid::{BlockRanges, read_edge};
@@ -43,13 +41,13 @@ pub(crate) fn are_bytes(bytes: &[u8])
 
 /// Fills the buffer with the bytes of a file from `pos` on, by one read, or by none where it is empty.
 fn fill<D: Depot>(depot: &mut D, name: &str, pos: u64, buffer: &mut [u8]) -> Result<(), Trouble>
-    ensures bytes { IfSome (D.files depot.old) (λ held. 0 < length buffer.old → OnOk result (HasBytesAt held name.now pos buffer.new)) }
+    ensures bytes { IfSome (D.state depot.old).files (λ held. 0 < length buffer.old → OnOk result (HasBytesAt held name.now pos buffer.new)) }
     ensures length { length buffer.new ≡ length buffer.old }
-    ensures cause { HasExactCause Trouble.Failed (D.faults depot.old) (D.faults depot.new) result }
-    ensures calm { IsTrue (D.calm depot.old) → IfSome (D.files depot.old) (λ held. HasRange held name.now pos (length buffer.old)
+    ensures cause { CountsFaults (D.state depot.old) (D.state depot.new) result }
+    ensures calm { IsTrue (D.state depot.old).calm → IfSome (D.state depot.old).files (λ held. HasRange held name.now pos (length buffer.old)
         → IsErrOf result Trouble.Failed → ⊥) }
-    ensures read { D.reads depot.new ≡ counted_times (min 1 (length buffer.old)) (D.reads depot.old) }
-    ensures frame { OnlyReads (min 1 (length buffer.old)) (depot_change ⟦<D as Depot>⟧ depot.old depot.new) }
+    ensures read { ReadsJust (min 1 (length buffer.old)) (D.state depot.old) (D.state depot.new) }
+    ensures frame { OnlyReads 0 (min 1 (length buffer.old)) (D.state depot.old) (D.state depot.new) }
 {
     if buffer.is_empty() {
         return Ok(());
@@ -67,15 +65,15 @@ pub(crate) fn read_edges<D: Depot>(
     buffer: &mut [u8],
     edges: &mut Vec<Edge>,
 ) -> Result<Option<Edge>, Trouble>
-    ensures bytes { IfSome (D.files depot.old) (λ held. 0 < length buffer.old → OnOk result (HasBytesAt held name.now pos buffer.new)) }
+    ensures bytes { IfSome (D.state depot.old).files (λ held. 0 < length buffer.old → OnOk result (HasBytesAt held name.now pos buffer.new)) }
     ensures length { length buffer.new ≡ length buffer.old }
     ensures are_bytes { AreBytes buffer.new }
     ensures decoded { IfOk result (λ stray. Decodes (is_within ranges.now) (edges_of_bytes buffer.new) edges.new.items stray) }
-    ensures cause { HasExactCause Trouble.Failed (D.faults depot.old) (D.faults depot.new) result }
-    ensures calm { IsTrue (D.calm depot.old) → IfSome (D.files depot.old) (λ held. HasRange held name.now pos (length buffer.old)
+    ensures cause { CountsFaults (D.state depot.old) (D.state depot.new) result }
+    ensures calm { IsTrue (D.state depot.old).calm → IfSome (D.state depot.old).files (λ held. HasRange held name.now pos (length buffer.old)
         → IsErrOf result Trouble.Failed → ⊥) }
-    ensures read { D.reads depot.new ≡ counted_times (min 1 (length buffer.old)) (D.reads depot.old) }
-    ensures frame { OnlyReads (min 1 (length buffer.old)) (depot_change ⟦<D as Depot>⟧ depot.old depot.new) }
+    ensures read { ReadsJust (min 1 (length buffer.old)) (D.state depot.old) (D.state depot.new) }
+    ensures frame { OnlyReads 0 (min 1 (length buffer.old)) (D.state depot.old) (D.state depot.new) }
 {
     let filled = fill(depot, name, pos, buffer);
     are_bytes(buffer);

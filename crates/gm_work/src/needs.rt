@@ -8,7 +8,7 @@ ghost use Rattle.gm_label.specs.Catalogues.{place_at, AreInRows};
 ghost use Rattle.gm_label.specs.Overlays.{sources_under, AreOverlays};
 
 use crate::kinds::is_two_way;
-use gm_active::{Active, ChunkSet, find_needed};
+use gm_active::{Active, ChunkSet, owed};
 use gm_base::Spec;
 use gm_label::{Catalogue, Overlays};
 
@@ -32,5 +32,5 @@ pub(crate) fn owe_needed(
         (λ c. (place_at catalogue.now c).block) (sources_under catalogue.now overlays.now) }
     ensures length { length into.new ≡ length into.old }
 {
-    find_needed(catalogue, overlays, active, is_two_way(spec), into);
+    owed(catalogue, overlays, active, is_two_way(spec), into);
 }

@@ -17,7 +17,7 @@ use crate::kinds::{begin_values, carry_values, counts_degrees, is_done, most_rou
 use crate::marks::mark_round;
 use crate::needs::owe_needed;
 use crate::passes::{count_edges, join_gifts};
-use gm_active::{Active, ChunkSet, find_counted};
+use gm_active::{Active, ChunkSet, owed_in_counting};
 use gm_base::{ChunkCopy, Key, Memory, Spec, Turned, Values};
 use gm_label::{Catalogue, Overlays};
 use std::alloc::Global;
@@ -205,7 +205,7 @@ impl Work {
         ensures { self.new
             ≡ record self.old { state = record self.old.state { owed = counted_chunks_of (context_in self.old) } } }
     {
-        find_counted(&self.catalogue, &self.overlays, &mut self.owed);
+        owed_in_counting(&self.catalogue, &self.overlays, &mut self.owed);
     }
 
     /// The round of this number begins from the values as they are.

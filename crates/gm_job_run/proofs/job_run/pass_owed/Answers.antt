@@ -8,18 +8,18 @@ use Rattle.gm_job_run.proofs.job_run.pass_owed.Goals as goal
 pub returns-in_err-pass_chunk-clause-carries : goal.returns-in_err-pass_chunk-clause-carries
 returns-in_err-pass_chunk-clause-carries g c =
     let p = err_from_is_err_and c.from_residual.result c.from_residual.ensures.1 in
-    rw p.1 (rw p.2 (carries-stop g.D.Depot _ _ _ c.args.view.now.name.now (seen_in c.args.view.now) c.args.work.now c.loop-chunk.work _ _ c.loop-chunk.invariant.on c.in_err-pass_chunk.ensures.carries))
+    rw p.1 (rw p.2 (carries-stop _ _ _ c.args.view.now.name.now (seen_in c.args.view.now) c.args.work.now c.loop-chunk.work _ _ c.loop-chunk.invariant.on c.in_err-pass_chunk.ensures.carries))
 
 pub loop-chunk-preserved : goal.loop-chunk-preserved
 loop-chunk-preserved g c =
     let made = c.in_ok-pass_chunk.ensures in
-    passes-next g.D.Depot _ _ _ c.args.view.now.name.now (seen_in c.args.view.now) c.args.work.now c.loop-chunk.work c.pass_chunk.new.work c.loop-chunk.from c.chunks-chunks.result c.in-Some.chunk
-    c.loop-chunk.invariant c.in-Some.ensures.some (carries-on g.D.Depot _ _ c.args.view.now.name.now (seen_in c.args.view.now) c.loop-chunk.work c.pass_chunk.new.work _ made.carries (λ bytes first told way. made.under_way bytes first told way))
+    passes-next _ _ _ c.args.view.now.name.now (seen_in c.args.view.now) c.args.work.now c.loop-chunk.work c.pass_chunk.new.work c.loop-chunk.from c.chunks-chunks.result c.in-Some.chunk
+    c.loop-chunk.invariant c.in-Some.ensures.some (carries-on _ _ c.args.view.now.name.now (seen_in c.args.view.now) c.loop-chunk.work c.pass_chunk.new.work _ made.carries (λ bytes first told way. made.under_way bytes first told way))
     made.phase made.less
 
 pub returns-clause-none : goal.returns-clause-none
 returns-clause-none g c =
-    let owed = c.loop-chunk.work.entry.owed in
+    let owed = c.loop-chunk.work.state.owed in
     let chunks = c.chunks-chunks.result in
     let long = c.in_default.ensures.length in
     let all = c.chunks-chunks.ensures.value in
@@ -33,4 +33,4 @@ returns-clause-under_way g c bytes first told way = c.loop-chunk.invariant.on.un
 pub returns-clause-carries : goal.returns-clause-carries
 returns-clause-carries g c =
     let on = c.loop-chunk.invariant.on in
-    carries-done g.D.Depot _ _ c.args.view.now.name.now (seen_in c.args.view.now) c.args.work.now c.loop-chunk.work _ on.same on.faults on.frame
+    carries-done _ _ c.args.view.now.name.now (seen_in c.args.view.now) c.args.work.now c.loop-chunk.work _ on.same on.faults on.frame

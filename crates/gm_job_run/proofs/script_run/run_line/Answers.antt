@@ -2,8 +2,7 @@ use Rattle.std.specs.Prelude.{◌+◌, ◌≤◌}
 use Rattle.std.specs.Arc.{arc_value}
 use Rattle.std.proofs.Common.{◌≡◌, ℕ, List, length, sym, ap, ◌∙◌, subst}
 use Rattle.gm_base.specs.declared.job.Spec.{Spec}
-use Rattle.gm_outside.specs.declared.traits.Depot as Depot
-use Rattle.gm_outside.specs.Calls.{depot_change}
+use Rattle.gm_outside.specs.States.{DepotState}
 use Rattle.gm_grid.specs.GridBytes.{edges_in}
 use Rattle.gm_label.specs.Catalogues.{Catalogue}
 use Rattle.gm_source.specs.Fetches.{TellsGrid}
@@ -25,12 +24,12 @@ seen_here : (versions : Versions) (job : Job) (own : OwnChanges) (version : ℕ)
 seen_here versions job own version is all =
     ap (snapshot_in versions.batches) (is ∙ ap (own_of job) all) ∙ sees_all versions job
 
-few_by : {D : Type 0} (g : Depot.Ghosts D) (old new : D) (name : List ℕ) (cat : Catalogue) (spec : Spec) (s t : Snapshot) → s ≡ t
-    → ((bytes : List ℕ) → TellsGrid (g.files old) name cat bytes → g.reads new ≤ g.reads old + run_weight (snapshot_view spec cat (edges_in bytes) s) (pass_reads cat))
-    → (bytes : List ℕ) → TellsGrid (g.files old) name cat bytes → g.reads new ≤ g.reads old + run_weight (snapshot_view spec cat (edges_in bytes) t) (pass_reads cat)
-few_by g old new name cat spec s t same few =
-    subst (λ (seen : Snapshot). (bytes : List ℕ) → TellsGrid (g.files old) name cat bytes
-    → g.reads new ≤ g.reads old + run_weight (snapshot_view spec cat (edges_in bytes) seen) (pass_reads cat)) same few
+few_by : (old new : DepotState) (name : List ℕ) (cat : Catalogue) (spec : Spec) (s t : Snapshot) → s ≡ t
+    → ((bytes : List ℕ) → TellsGrid old.files name cat bytes → new.reads ≤ old.reads + run_weight (snapshot_view spec cat (edges_in bytes) s) (pass_reads cat))
+    → (bytes : List ℕ) → TellsGrid old.files name cat bytes → new.reads ≤ old.reads + run_weight (snapshot_view spec cat (edges_in bytes) t) (pass_reads cat)
+few_by old new name cat spec s t same few =
+    subst (λ (seen : Snapshot). (bytes : List ℕ) → TellsGrid old.files name cat bytes
+    → new.reads ≤ old.reads + run_weight (snapshot_view spec cat (edges_in bytes) seen) (pass_reads cat)) same few
 
 pub run_job-requires-clause-view : goal.run_job-requires-clause-view
 run_job-requires-clause-view g c =
@@ -42,19 +41,19 @@ run_job-requires-clause-view g c =
 
 pub returns-in_err-outcome-clause-few : goal.returns-in_err-outcome-clause-few
 returns-in_err-outcome-clause-few g c =
-    few_by g.D.Depot c.args.depot.now c.run_job.new.depot c.args.grid.now (arc_value c.args.cat) c.args.job.spec _ _
+    few_by (g.D.Depot.state c.args.depot.now) (g.D.Depot.state c.run_job.new.depot) c.args.grid.now (arc_value c.args.cat) c.args.job.spec _ _
     (seen_here c.args.versions.now c.args.job c.new-own.result _ c.new-own.ensures c.count-version.ensures.value) c.run_job.ensures.few
 
 pub returns-clause-few : goal.returns-clause-few
 returns-clause-few g c =
-    few_by g.D.Depot c.args.depot.now c.run_job.new.depot c.args.grid.now (arc_value c.args.cat) c.args.job.spec _ _
+    few_by (g.D.Depot.state c.args.depot.now) (g.D.Depot.state c.run_job.new.depot) c.args.grid.now (arc_value c.args.cat) c.args.job.spec _ _
     (seen_here c.args.versions.now c.args.job c.new-own.result _ c.new-own.ensures c.count-version.ensures.value) c.run_job.ensures.few
 
 pub returns-clause-ends : goal.returns-clause-ends
 returns-clause-ends g c =
-    subst (λ (seen : Snapshot). (bytes : List ℕ) → TellsGrid (g.D.Depot.files c.args.depot.now) c.args.grid.now (arc_value c.args.cat) bytes
+    subst (λ (seen : Snapshot). (bytes : List ℕ) → TellsGrid (g.D.Depot.state c.args.depot.now).files c.args.grid.now (arc_value c.args.cat) bytes
     → JobEnds (snapshot_view c.args.job.spec (arc_value c.args.cat) (edges_in bytes) seen) (pass_reads (arc_value c.args.cat))
-    (depot_change g.D.Depot c.args.depot.now c.run_job.new.depot) c.in_ok-outcome.outcome)
+    (g.D.Depot.state c.args.depot.now) (g.D.Depot.state c.run_job.new.depot) c.in_ok-outcome.outcome)
     (seen_here c.args.versions.now c.args.job c.new-own.result _ c.new-own.ensures c.count-version.ensures.value) c.in_ok-outcome.ensures.ends
 
 pub run_job-requires-clause-over : goal.run_job-requires-clause-over

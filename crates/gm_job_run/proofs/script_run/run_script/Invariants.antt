@@ -7,4 +7,4 @@ abbrev pub invariant-loop-entry : goal.invariant-loop-entry
 invariant-loop-entry g l =
     (goal.iterator-loop-entry g).can_next l.entry-iterator ×
     (goal.iterator-loop-entry g).is_finite l.entry-iterator ×
-    ScriptSoFar g.D.Depot l.fn.depot l.depot l.fn.grid (arc_value l.fn.cat) l.fn.script (into_iter_items l.entry-iterator) l.versions l.lines.items
+    ScriptSoFar (g.D.Depot.state l.fn.depot) (g.D.Depot.state l.depot) l.fn.grid (arc_value l.fn.cat) l.fn.script (into_iter_items l.entry-iterator) l.versions l.lines.items

@@ -20,14 +20,14 @@ returns-clause-reads g c =
     let room = room_for c.deref_mut.result.now c.chunk-place.result.length _ (omega (arith, c.deref_mut.ensures.len, c.in_ok-widen.ensures)) (λ i. (place i).length) in
     let are : AreRangesOf cat.dimensions (place_at cat c.args.chunk).block c.of-ranges.result =
     λ e. c.of-ranges.ensures e ∙ (λ i. is_in_block (c.shape.ensures i) (place i).block e) in
-    reads_chunk (g.D.Depot.files c.args.depot.now) c.args.name.now cat c.args.chunk c.of-ranges.result c.edge_start-start.result
+    reads_chunk (g.D.Depot.state c.args.depot.now).files c.args.name.now cat c.args.chunk c.of-ranges.result c.edge_start-start.result
     (length (take (12 * c.chunk-place.result.length) c.deref_mut.result.now)) c.read_edges.new.buffer c.read_edges.new.edges.items c.read_edges.result are pos room
     c.read_edges.ensures.length c.read_edges.ensures.decoded c.read_edges.ensures.bytes
 
 pub returns-clause-told : goal.returns-clause-told
 returns-clause-told g c = λ bytes tells.
     let cat = c.args.cat.now in
-    let files = g.D.Depot.files c.args.depot.now in
+    let files = (g.D.Depot.state c.args.depot.now).files in
     let laws = c.grid_reads_back.ensures in
     unchanged_ok files c.args.name.now bytes cat c.args.chunk c.read_edges.new.edges.items c.read_edges.result tells
     (told_chunk files c.args.name.now bytes cat c.args.chunk laws.shape laws.edges laws.size tells c.requires) (returns-clause-reads g c)
@@ -35,7 +35,7 @@ returns-clause-told g c = λ bytes tells.
 pub returns-clause-calm : goal.returns-clause-calm
 returns-clause-calm g c = λ bytes calm tells failed.
     let cat = c.args.cat.now in
-    let files = g.D.Depot.files c.args.depot.now in
+    let files = (g.D.Depot.state c.args.depot.now).files in
     let laws = c.grid_reads_back.ensures in
     let place = c.chunk-place.ensures.value in
     let pos : c.edge_start-start.result ≡ chunk_start cat c.args.chunk =

@@ -72,10 +72,10 @@ pub returns-clause-labelled : goal.returns-clause-labelled
 returns-clause-labelled g c size labelled =
     let read = c.in-Ok.ensures in
     let decoded = no_stray (is_within c.args.block.now.ranges) (edges_of_bytes c.read_edges.new.buffer) _ c.in-Ok.stray (sym c.is_some.ensures ∙ c.if-is_some.false) read.decoded in
-    let is = is_read (g.D.Depot.files c.args.depot.now) c.args.name.now size c.args.chunk c.args.edges_at c.args.cat.now c.chunk-place.result c.args.block.now.ranges c.args.buffer.now _
+    let is = is_read (g.D.Depot.state c.args.depot.now).files c.args.name.now size c.args.chunk c.args.edges_at c.args.cat.now c.chunk-place.result c.args.block.now.ranges c.args.buffer.now _
     c.chunk-place.ensures.value (subst (λ (b : ℕ). AreRangesOf c.args.cat.now.dimensions b c.args.block.now.ranges) c.requires.number c.requires.block.ranges) c.requires.room read.length labelled read.bytes in
     let given = c.in_ok-set_label_of.ensures.ok ∙ ap (λ (edges : List Edge). with_label c.args.cat.now c.args.chunk (label_of edges)) c.deref.ensures.value in
-    told-weaker (g.D.Depot.files c.args.depot.now) c.args.name.now _ _
+    told-weaker (g.D.Depot.state c.args.depot.now).files c.args.name.now _ _
     (λ bytes told. chunk-labelled size c.args.chunk c.args.edges_at c.args.cat.now c.set_label_of.new.cat c.read_edges.new.buffer bytes c.read_edges.new.edges.items c.args.block.now.ranges
     c.requires.end c.requires.within is.long read.are_bytes is.are decoded given told)
     is.told
@@ -84,15 +84,15 @@ pub returns-then-is_some-clause-opens : goal.returns-then-is_some-clause-opens
 returns-then-is_some-clause-opens g c size labelled =
     let read = c.in-Ok.ensures in
     let stray = a_stray (is_within c.args.block.now.ranges) (edges_of_bytes c.read_edges.new.buffer) _ c.in-Ok.stray (sym c.is_some.ensures ∙ c.if-is_some.true) read.decoded in
-    let is : IsRead (g.D.Depot.files c.args.depot.now) c.args.name.now size c.args.chunk c.args.edges_at c.args.cat.now c.chunk-place.result c.args.block.now.ranges c.read_edges.new.buffer =
-    is_read (g.D.Depot.files c.args.depot.now) c.args.name.now size c.args.chunk c.args.edges_at c.args.cat.now c.chunk-place.result c.args.block.now.ranges c.args.buffer.now _
+    let is : IsRead (g.D.Depot.state c.args.depot.now).files c.args.name.now size c.args.chunk c.args.edges_at c.args.cat.now c.chunk-place.result c.args.block.now.ranges c.read_edges.new.buffer =
+    is_read (g.D.Depot.state c.args.depot.now).files c.args.name.now size c.args.chunk c.args.edges_at c.args.cat.now c.chunk-place.result c.args.block.now.ranges c.args.buffer.now _
     c.chunk-place.ensures.value (subst (λ (b : ℕ). AreRangesOf c.args.cat.now.dimensions b c.args.block.now.ranges) c.requires.number c.requires.block.ranges) c.requires.room read.length labelled read.bytes in
     let index : (place_at c.args.cat.now c.args.chunk).first + length c.read_edges.new.edges.items ≡ c.chunk-place.result.first + c.len.result =
     let first : c.chunk-place.result.first ≡ (place_at c.args.cat.now c.args.chunk).first = is.first in
     omega (arith, c.len.ensures, c.read_edges.new.edges.ok) in
     let long : length c.read_edges.new.buffer ≡ 12 * (place_at c.args.cat.now c.args.chunk).count = is.long in
-    opens_by-grid g.D.Depot _ _ _ size c.args.name.now _ (only_reads-more g.D.Depot _ _ _ _ (omega (arith, read.length)) read.frame) (read.cause.kept (λ is. cc))
-    (told-weaker (g.D.Depot.files c.args.depot.now) c.args.name.now _ _
+    opens_by-grid _ _ _ size c.args.name.now _ (only_reads-more _ _ _ _ _ (omega (arith, read.length)) read.frame) (read.cause.kept (λ is. cc))
+    (told-weaker (g.D.Depot.state c.args.depot.now).files c.args.name.now _ _
     (λ bytes told. chunk-refused size c.args.chunk c.args.edges_at c.args.cat.now c.read_edges.new.buffer bytes _ c.args.block.now.ranges c.requires.end c.requires.within is.long is.are stray
     (c.grid_by_parts.ensures.sizes bytes told.0.index.head.taken told.0.index.taken) told ∙ ap (λ (n : ℕ). Some (BadEdge n)) index)
     is.told)
@@ -100,14 +100,14 @@ returns-then-is_some-clause-opens g c size labelled =
 pub returns-in-Err-clause-opens : goal.returns-in-Err-clause-opens
 returns-in-Err-clause-opens g c size labelled =
     let read = c.in-Err.ensures in
-    let files = g.D.Depot.files c.args.depot.now in
+    let files = (g.D.Depot.state c.args.depot.now).files in
     let name = c.args.name.now in
     let cat = c.args.cat.now in
     let k = c.args.chunk in
     let first : c.args.edges_at + 12 * c.chunk-place.result.first ≡ c.args.edges_at + 12 * (place_at cat k).first = (λ i. c.args.edges_at + 12 * (c.chunk-place.ensures.value i).first) in
     let count : c.chunk-place.result.length ≡ (place_at cat k).count = (λ i. (c.chunk-place.ensures.value i).length) in
     let whole = length-take-le (12 * c.chunk-place.result.length) c.args.buffer.now (omega (arith, c.requires.room)) in
-    rw c.into.ensures (opens_by-trouble g.D.Depot _ _ _ size name c.in-Err.trouble _ _ (only_reads-more g.D.Depot _ _ _ _ (omega (arith, whole, count)) read.frame) read.cause read.calm (g.met.D.Depot.calm_tells c.args.depot.now)
+    rw c.into.ensures (opens_by-trouble _ _ _ size name c.in-Err.trouble _ _ (only_reads-more _ _ _ _ _ (omega (arith, whole, count)) read.frame) read.cause read.calm (g.met.D.Depot.calm_tells c.args.depot.now)
     (told-weaker files name _ _
     (λ bytes told. let inside = chunk-in_range size k c.args.edges_at cat bytes c.requires.end c.requires.within
     (c.grid_by_parts.ensures.sizes bytes told.index.head.taken told.index.taken) told in omega (arith, inside, first, count, whole))

@@ -11,19 +11,19 @@ pub loop-chunk-preserved : goal.loop-chunk-preserved
 loop-chunk-preserved g c =
     let made = c.label_chunk.ensures in
     let ok = c.in_ok-label_chunk.ensures in
-    labels-next g.D.Depot _ _ _ _ _ _ _ _ _ _ _ _ c.loop-chunk.chunk (omega (arith, c.loop-chunk-test.true, c.chunks-chunk-end.ensures.value)) c.loop-chunk.invariant c.moved_to-block.ensures.is
+    labels-next _ _ _ _ _ _ _ _ _ _ _ _ c.loop-chunk.chunk (omega (arith, c.loop-chunk-test.true, c.chunks-chunk-end.ensures.value)) c.loop-chunk.invariant c.moved_to-block.ensures.is
     made.cut ok.set made.room made.frame ok.served ok.read ok.labelled
 
 pub returns-in_err-label_chunk-clause-opens : goal.returns-in_err-label_chunk-clause-opens
 returns-in_err-label_chunk-clause-opens g c size told =
     let p = err_from_is_err_and c.from_residual.result c.from_residual.ensures.1 in
     let k = c.loop-chunk.chunk in
-    rw p.1 (rw p.2 (labels-refused g.D.Depot _ _ _ size c.args.name.now _ _ _ _ _ k _ (omega (arith, c.loop-chunk-test.true, c.chunks-chunk-end.ensures.value))
+    rw p.1 (rw p.2 (labels-refused _ _ _ size c.args.name.now _ _ _ _ _ k _ (omega (arith, c.loop-chunk-test.true, c.chunks-chunk-end.ensures.value))
     c.loop-chunk.invariant told (λ labelled. c.in_err-label_chunk.ensures.opens size labelled)))
 
 pub returns-clause-opens : goal.returns-clause-opens
 returns-clause-opens g c size told =
     let places = c.args.cat.now.places in
     let k = c.loop-chunk.chunk in
-    opens_by-more g.D.Depot _ _ (reads_before places k) (sum_by chunk_reads places) size c.args.name.now _ (sum_by-take-le chunk_reads places k)
-    (opens_by-served g.D.Depot _ _ (reads_before places k) size c.args.name.now _ c.loop-chunk.invariant.frame c.loop-chunk.invariant.served)
+    opens_by-more _ _ (reads_before places k) (sum_by chunk_reads places) size c.args.name.now _ (sum_by-take-le chunk_reads places k)
+    (opens_by-served _ _ (reads_before places k) size c.args.name.now _ c.loop-chunk.invariant.frame c.loop-chunk.invariant.served)

@@ -2,7 +2,6 @@ use Rattle.std.proofs.Common.{◌+◌, ◌≤◌, List, length, Option, sym, ap,
 use Rattle.std.specs.Prelude.{sum_by}
 use Rattle.std.proofs.lemmas.Result.{err_from_is_err_and}
 use Rattle.gm_base.specs.declared.limits.TheConstants.{MAX_CHUNKS}
-use Rattle.gm_outside.specs.Calls.{depot_change}
 use Rattle.gm_outside.specs.Causes.{counted_times}
 use Rattle.gm_outside.specs.Files.{Files}
 use Rattle.gm_grid.specs.GridBytes.{blocks_in}
@@ -21,11 +20,11 @@ returns-in_err-label_plan-clause-opens g c =
     let size = c.args.chunk_size in
     let name = c.args.name.now in
     let cat = c.in_ok-cat.cat in
-    let first = subst (λ (r : _). OpensBy 2 size name (depot_change g.D.Depot c.args.depot.now c.read_plan.new.depot) r) c.in_ok-cat.was c.read_plan.ensures.opens in
-    let told = subst (λ (f : Option Files). IsTold f name (HasLabelled size 0 cat)) (sym first.frame.files_kept) c.in_ok-cat.ensures.planned in
-    rw p.1 (rw p.2 (opens_by-more g.D.Depot _ _ (2 + sum_by chunk_reads cat.places) (2 + MAX_CHUNKS) size name _ (few_reads size cat c.in_ok-cat.ensures.chunks)
-    (opens_by-then g.D.Depot _ _ _ 2 (sum_by chunk_reads cat.places) size name cat _ first
-    (opens_by-passed g.D.Depot _ _ (sum_by chunk_reads cat.places) (sum_by chunk_reads cat.places) size name c.label_plan.result _ (omega arith) c.in_err-label_plan.was
+    let first = subst (λ (r : _). OpensBy 1 2 size name (g.D.Depot.state c.args.depot.now) (g.D.Depot.state c.read_plan.new.depot) r) c.in_ok-cat.was c.read_plan.ensures.opens in
+    let told = subst (λ (f : Option Files). IsTold f name (HasLabelled size 0 cat)) (sym first.frame.files) c.in_ok-cat.ensures.planned in
+    rw p.1 (rw p.2 (opens_by-more _ _ (2 + sum_by chunk_reads cat.places) (2 + MAX_CHUNKS) size name _ (few_reads size cat c.in_ok-cat.ensures.chunks)
+    (opens_by-then _ _ _ 2 (sum_by chunk_reads cat.places) size name cat _ first
+    (opens_by-passed _ _ (sum_by chunk_reads cat.places) (sum_by chunk_reads cat.places) size name c.label_plan.result _ (omega arith) c.in_err-label_plan.was
     (c.label_plan.ensures.opens told)))))
 
 pub returns-clause-catalogue : goal.returns-clause-catalogue
@@ -34,7 +33,7 @@ returns-clause-catalogue g c =
     let name = c.args.name.now in
     let cat = c.in_ok-cat.cat in
     let now = c.label_plan.new.cat in
-    let kept = c.read_plan.ensures.opens.frame.files_kept in
+    let kept = c.read_plan.ensures.opens.frame.files in
     let told = subst (λ (f : Option Files). IsTold f name (HasLabelled size 0 cat)) (sym kept) c.in_ok-cat.ensures.planned in
     subst (λ (f : Option Files). IsTold f name (λ bytes. IsCatalogueOf bytes size now)) kept
     (told-weaker _ name _ _
@@ -52,18 +51,18 @@ returns-clause-opens g c =
     let size = c.args.chunk_size in
     let name = c.args.name.now in
     let cat = c.in_ok-cat.cat in
-    let first = subst (λ (r : _). OpensBy 2 size name (depot_change g.D.Depot c.args.depot.now c.read_plan.new.depot) r) c.in_ok-cat.was c.read_plan.ensures.opens in
-    let told = subst (λ (f : Option Files). IsTold f name (HasLabelled size 0 cat)) (sym first.frame.files_kept) c.in_ok-cat.ensures.planned in
-    let second = subst (λ (r : _). OpensBy (sum_by chunk_reads cat.places) size name (depot_change g.D.Depot c.read_plan.new.depot c.label_plan.new.depot) r) c.in_ok-label_plan.was
+    let first = subst (λ (r : _). OpensBy 1 2 size name (g.D.Depot.state c.args.depot.now) (g.D.Depot.state c.read_plan.new.depot) r) c.in_ok-cat.was c.read_plan.ensures.opens in
+    let told = subst (λ (f : Option Files). IsTold f name (HasLabelled size 0 cat)) (sym first.frame.files) c.in_ok-cat.ensures.planned in
+    let second = subst (λ (r : _). OpensBy 0 (sum_by chunk_reads cat.places) size name (g.D.Depot.state c.read_plan.new.depot) (g.D.Depot.state c.label_plan.new.depot) r) c.in_ok-label_plan.was
     (c.label_plan.ensures.opens told) in
-    let all = opens_by-more g.D.Depot _ _ (2 + sum_by chunk_reads cat.places) (2 + MAX_CHUNKS) size name _ (few_reads size cat c.in_ok-cat.ensures.chunks)
-    (opens_by-then g.D.Depot _ _ _ 2 (sum_by chunk_reads cat.places) size name cat _ first second) in
-    opens_by-served g.D.Depot _ _ (2 + MAX_CHUNKS) size name _ all.frame (all.fault.kept (λ is. cc))
+    let all = opens_by-more _ _ (2 + sum_by chunk_reads cat.places) (2 + MAX_CHUNKS) size name _ (few_reads size cat c.in_ok-cat.ensures.chunks)
+    (opens_by-then _ _ _ 2 (sum_by chunk_reads cat.places) size name cat _ first second) in
+    opens_by-served _ _ (2 + MAX_CHUNKS) size name _ all.frame (all.fault.kept (λ is. cc))
 
 pub returns-clause-read : goal.returns-clause-read
 returns-clause-read g c =
     let cat = c.in_ok-cat.cat in
     c.in_ok-label_plan.ensures.read
     ∙ ap (counted_times (sum_by chunk_reads cat.places)) c.in_ok-cat.ensures.read
-    ∙ sym (counted_times-add 2 (sum_by chunk_reads cat.places) (g.D.Depot.reads c.args.depot.now))
-    ∙ ap (λ (ps : List Place). counted_times (opening_reads ps) (g.D.Depot.reads c.args.depot.now)) (sym c.label_plan.ensures.cut.1)
+    ∙ sym (counted_times-add 2 (sum_by chunk_reads cat.places) (g.D.Depot.state c.args.depot.now).reads)
+    ∙ ap (λ (ps : List Place). counted_times (opening_reads ps) (g.D.Depot.state c.args.depot.now).reads) (sym c.label_plan.ensures.cut.1)

@@ -3,7 +3,7 @@ use Rattle.std.proofs.Math.Seq.{take-append_seam}
 use Rattle.gm_outside.specs.Files.{HasBytesAt}
 use Rattle.gm_grid.specs.GridBytes.{index_size, counts_of_index}
 use Rattle.gm_source.specs.Openings.{AreBytes}
-use Rattle.gm_source.specs.OpeningsRules.{opens_by-index, only_reads-one}
+use Rattle.gm_source.specs.OpeningsRules.{opens_by-index}
 use Rattle.gm_source.proofs.Told.{told-weaker, told-both}
 use Rattle.gm_source.proofs.Heads.{bad_index, good_index}
 use Rattle.gm_source.proofs.opening.read_counts.Goals as goal
@@ -15,7 +15,7 @@ filled count piece room long =
 
 pub returns-in-Ok-clause-index : goal.returns-in-Ok-clause-index
 returns-in-Ok-clause-index g c =
-    let files = g.D.Depot.files c.args.depot.now in
+    let files = (g.D.Depot.state c.args.depot.now).files in
     let name = c.args.name.now in
     let is : c.deref-2.result.now ≡ c.read_at.new.into =
     c.deref-2.ensures.value ∙ filled c.in_ok-bytes.bytes.len c.read_at.new.into c.in_ok-bytes.bytes.items (omega (arith, c.read_at.auto.into, c.deref_mut.ensures.len)) in
@@ -29,13 +29,13 @@ returns-in-Ok-clause-index g c =
 pub returns-clause-opens : goal.returns-clause-opens
 returns-clause-opens g c chunk_size =
     let read = c.in_ok-read_at.ensures in
-    let files = g.D.Depot.files c.args.depot.now in
+    let files = (g.D.Depot.state c.args.depot.now).files in
     let name = c.args.name.now in
     let is : c.deref-2.result.now ≡ c.read_at.new.into =
     c.deref-2.ensures.value ∙ filled c.in_ok-bytes.bytes.len c.read_at.new.into c.in_ok-bytes.bytes.items (omega (arith, c.read_at.auto.into, c.deref_mut.ensures.len)) in
     let whole : length c.deref-2.result.now ≡ index_size c.args.shape.now = omega (arith, ap (λ (piece : List ℕ). length piece) is, c.read_at.auto.into, c.deref_mut.ensures.len, c.in_ok-bytes.ensures) in
-    rw c.into.ensures (opens_by-index g.D.Depot _ _ 1 chunk_size c.args.size name (counts_of_index c.deref-2.result.now) c.in-Err.error
-    (only_reads-one g.D.Depot _ _ read.files_kept read.calm_kept read.write_faults_kept read.cause.later read.reads) (read.cause.kept (λ is. cc))
+    rw c.into.ensures (opens_by-index _ _ 1 chunk_size c.args.size name (counts_of_index c.deref-2.result.now) c.in-Err.error
+    read.frame (read.cause.kept (λ is. cc))
     c.in-Err.ensures.refused
     (λ e refused. told-weaker files name _ _
     (λ bytes told. bad_index chunk_size c.args.size c.args.shape.now c.deref-2.result.now bytes e whole refused told)

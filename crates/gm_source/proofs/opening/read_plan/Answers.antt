@@ -1,8 +1,7 @@
 use Rattle.std.proofs.Common.{◌≡◌, ◌+◌, ℕ, List, length, Option, Some, Result, sym, ap, subst, ◌∙◌, arith}
 use Rattle.std.specs.Prelude.{Ok}
 use Rattle.std.proofs.lemmas.Result.{err_from_is_err_and}
-use Rattle.gm_outside.specs.declared.traits.Depot as Depot
-use Rattle.gm_outside.specs.Calls.{depot_change}
+use Rattle.gm_outside.specs.States.{DepotState}
 use Rattle.gm_outside.specs.Files.{Files}
 use Rattle.gm_outside.specs.Frames.{OnlyReads}
 use Rattle.gm_grid.specs.GridRefusals.{grid_refusal, refusal_by_chunks}
@@ -16,43 +15,43 @@ use Rattle.gm_source.proofs.LabelledChunks.{labelled-none, planned-chunks}
 use Rattle.gm_source.proofs.opening.read_plan.Goals as goal
 
 -- a call after one that was served
-next_call : {D X Y : Type 0} (g : Depot.Ghosts D) (old mid new : D) (first second size : ℕ) (name : List ℕ) (x : X) (before : Result X OpenError) (after : Result Y OpenError)
-    → before ≡ Ok x → OpensBy first size name (depot_change g old mid) before → OpensBy second size name (depot_change g mid new) after
-    → OpensBy (first + second) size name (depot_change g old new) after
-next_call {X = X} g old mid new first second size name x before after is a b =
-    opens_by-then g old mid new first second size name x after (subst (λ (r : Result X OpenError). OpensBy first size name (depot_change g old mid) r) is a) b
+next_call : {X Y : Type 0} {asks more : ℕ} (old mid new : DepotState) (first second size : ℕ) (name : List ℕ) (x : X) (before : Result X OpenError) (after : Result Y OpenError)
+    → before ≡ Ok x → OpensBy asks first size name old mid before → OpensBy more second size name mid new after
+    → OpensBy (asks + more) (first + second) size name old new after
+next_call {X = X} {asks = asks} old mid new first second size name x before after is a b =
+    opens_by-then old mid new first second size name x after (subst (λ (r : Result X OpenError). OpensBy asks first size name old mid r) is a) b
 
-served_call : {D X : Type 0} (g : Depot.Ghosts D) (old new : D) (most size : ℕ) (name : List ℕ) (x : X) (result : Result X OpenError) → result ≡ Ok x
-    → OpensBy most size name (depot_change g old new) result → OnlyReads most (depot_change g old new) × (g.faults new ≡ g.faults old)
-served_call {X = X} g old new most size name x result is a =
-    let served = subst (λ (r : Result X OpenError). OpensBy most size name (depot_change g old new) r) is a in
+served_call : {X : Type 0} {asked : ℕ} (old new : DepotState) (most size : ℕ) (name : List ℕ) (x : X) (result : Result X OpenError) → result ≡ Ok x
+    → OpensBy asked most size name old new result → OnlyReads asked most old new × (new.faults ≡ old.faults)
+served_call {X = X} {asked = asked} old new most size name x result is a =
+    let served = subst (λ (r : Result X OpenError). OpensBy asked most size name old new r) is a in
     (served.frame, served.fault.kept (λ failed. absurd cc))
 
 -- the calls before the plan: the size was told, and head and index were read
-three_calls : {D X Y Z : Type 0} (g : Depot.Ghosts D) (old one two new : D) (size : ℕ) (name : List ℕ) (x : X) (y : Y) (first : Result X OpenError)
-    (second : Result Y OpenError) (third : Result Z OpenError) → first ≡ Ok x → second ≡ Ok y → OpensBy 0 size name (depot_change g old one) first
-    → OpensBy 1 size name (depot_change g one two) second → OpensBy 1 size name (depot_change g two new) third → OpensBy 2 size name (depot_change g old new) third
-three_calls g old one two new size name x y first second third is_x is_y a b c =
-    next_call g old two new 1 1 size name y second third is_y (next_call g old one two 0 1 size name x first second is_x a b) c
+three_calls : {X Y Z : Type 0} (old one two new : DepotState) (size : ℕ) (name : List ℕ) (x : X) (y : Y) (first : Result X OpenError)
+    (second : Result Y OpenError) (third : Result Z OpenError) → first ≡ Ok x → second ≡ Ok y → OpensBy 1 0 size name old one first
+    → OpensBy 0 1 size name one two second → OpensBy 0 1 size name two new third → OpensBy 1 2 size name old new third
+three_calls old one two new size name x y first second third is_x is_y a b c =
+    next_call old two new 1 1 size name y second third is_y (next_call old one two 0 1 size name x first second is_x a b) c
 
 pub read_shape-requires : goal.read_shape-requires
 read_shape-requires g c =
-    let kept = (c.file_size.ensures.opens c.args.chunk_size).frame.files_kept in
+    let kept = (c.file_size.ensures.opens c.args.chunk_size).frame.files in
     record { size = subst (λ (f : Option Files). IsTold f c.args.name.now (λ bytes. length bytes ≡ c.in_ok-size.size)) (sym kept) c.in_ok-size.ensures.size }
 
 pub read_counts-requires-clause-size : goal.read_counts-requires-clause-size
 read_counts-requires-clause-size g c =
-    let kept = (c.read_shape.ensures.opens c.args.chunk_size).frame.files_kept ∙ (c.file_size.ensures.opens c.args.chunk_size).frame.files_kept in
+    let kept = (c.read_shape.ensures.opens c.args.chunk_size).frame.files ∙ (c.file_size.ensures.opens c.args.chunk_size).frame.files in
     subst (λ (f : Option Files). IsTold f c.args.name.now (λ bytes. length bytes ≡ c.in_ok-size.size)) (sym kept) c.in_ok-size.ensures.size
 
 pub read_counts-requires-clause-head : goal.read_counts-requires-clause-head
 read_counts-requires-clause-head g c =
-    let kept = (c.read_shape.ensures.opens c.args.chunk_size).frame.files_kept in
+    let kept = (c.read_shape.ensures.opens c.args.chunk_size).frame.files in
     subst (λ (f : Option Files). IsTold f c.args.name.now (HasHead c.in_ok-shape.shape)) (sym kept) c.in_ok-shape.ensures.head
 
 pub returns-in-Ok-clause-planned : goal.returns-in-Ok-clause-planned
 returns-in-Ok-clause-planned g c =
-    let kept = (c.read_shape.ensures.opens c.args.chunk_size).frame.files_kept ∙ (c.file_size.ensures.opens c.args.chunk_size).frame.files_kept in
+    let kept = (c.read_shape.ensures.opens c.args.chunk_size).frame.files ∙ (c.file_size.ensures.opens c.args.chunk_size).frame.files in
     let counts = c.counts.ensures in
     subst (λ (f : Option Files). IsTold f c.args.name.now (HasLabelled c.args.chunk_size 0 c.in-Ok.cat)) kept
     (told-weaker _ c.args.name.now _ _
@@ -68,7 +67,7 @@ returns-in-Ok-clause-chunks g c =
 pub returns-in_err-size-clause-opens : goal.returns-in_err-size-clause-opens
 returns-in_err-size-clause-opens g c =
     let p = err_from_is_err_and c.from_residual.result c.from_residual.ensures.1 in
-    rw p.1 (rw p.2 (opens_by-passed g.D.Depot _ _ 0 2 c.args.chunk_size c.args.name.now c.file_size.result _ (omega arith) c.in_err-size.was
+    rw p.1 (rw p.2 (opens_by-passed _ _ 0 2 c.args.chunk_size c.args.name.now c.file_size.result _ (omega arith) c.in_err-size.was
     (c.file_size.ensures.opens c.args.chunk_size)))
 
 pub returns-in_err-shape-clause-opens : goal.returns-in_err-shape-clause-opens
@@ -76,33 +75,33 @@ returns-in_err-shape-clause-opens g c =
     let p = err_from_is_err_and c.from_residual-in_err-shape.result c.from_residual-in_err-shape.ensures.1 in
     let size = c.args.chunk_size in
     let name = c.args.name.now in
-    let both = next_call g.D.Depot _ _ _ 0 1 size name _ _ _ c.in_ok-size.was (c.file_size.ensures.opens size) (c.read_shape.ensures.opens size) in
-    rw p.1 (rw p.2 (opens_by-passed g.D.Depot _ _ 1 2 size name c.read_shape.result _ (omega arith) c.in_err-shape.was both))
+    let both = next_call _ _ _ 0 1 size name _ _ _ c.in_ok-size.was (c.file_size.ensures.opens size) (c.read_shape.ensures.opens size) in
+    rw p.1 (rw p.2 (opens_by-passed _ _ 1 2 size name c.read_shape.result _ (omega arith) c.in_err-shape.was both))
 
 pub returns-in_err-index-clause-opens : goal.returns-in_err-index-clause-opens
 returns-in_err-index-clause-opens g c =
     let p = err_from_is_err_and c.from_residual-in_err-index.result c.from_residual-in_err-index.ensures.1 in
     let size = c.args.chunk_size in
     let name = c.args.name.now in
-    let all = three_calls g.D.Depot _ _ _ _ size name _ _ _ _ _ c.in_ok-size.was c.in_ok-shape.was (c.file_size.ensures.opens size) (c.read_shape.ensures.opens size) (c.read_counts.ensures.opens size) in
-    rw p.1 (rw p.2 (opens_by-passed g.D.Depot _ _ 2 2 size name c.read_counts.result _ (omega arith) c.in_err-index.was all))
+    let all = three_calls _ _ _ _ size name _ _ _ _ _ c.in_ok-size.was c.in_ok-shape.was (c.file_size.ensures.opens size) (c.read_shape.ensures.opens size) (c.read_counts.ensures.opens size) in
+    rw p.1 (rw p.2 (opens_by-passed _ _ 2 2 size name c.read_counts.result _ (omega arith) c.in_err-index.was all))
 
 pub returns-in-Ok-clause-opens : goal.returns-in-Ok-clause-opens
 returns-in-Ok-clause-opens g c =
     let size = c.args.chunk_size in
     let name = c.args.name.now in
-    let all = served_call g.D.Depot _ _ 2 size name _ _ c.in_ok-index.was
-    (three_calls g.D.Depot _ _ _ _ size name _ _ _ _ _ c.in_ok-size.was c.in_ok-shape.was (c.file_size.ensures.opens size) (c.read_shape.ensures.opens size) (c.read_counts.ensures.opens size)) in
-    opens_by-served g.D.Depot _ _ 2 size name _ all.0 all.1
+    let all = served_call _ _ 2 size name _ _ c.in_ok-index.was
+    (three_calls _ _ _ _ size name _ _ _ _ _ c.in_ok-size.was c.in_ok-shape.was (c.file_size.ensures.opens size) (c.read_shape.ensures.opens size) (c.read_counts.ensures.opens size)) in
+    opens_by-served _ _ 2 size name _ all.0 all.1
 
 pub returns-clause-opens : goal.returns-clause-opens
 returns-clause-opens g c =
     let size = c.args.chunk_size in
     let name = c.args.name.now in
-    let all = served_call g.D.Depot _ _ 2 size name _ _ c.in_ok-index.was
-    (three_calls g.D.Depot _ _ _ _ size name _ _ _ _ _ c.in_ok-size.was c.in_ok-shape.was (c.file_size.ensures.opens size) (c.read_shape.ensures.opens size) (c.read_counts.ensures.opens size)) in
-    let kept = (c.read_shape.ensures.opens size).frame.files_kept ∙ (c.file_size.ensures.opens size).frame.files_kept in
-    rw c.into.ensures (opens_by-chunks g.D.Depot _ _ 2 size name c.counts.result.now c.in-Err.error all.0 all.1
+    let all = served_call _ _ 2 size name _ _ c.in_ok-index.was
+    (three_calls _ _ _ _ size name _ _ _ _ _ c.in_ok-size.was c.in_ok-shape.was (c.file_size.ensures.opens size) (c.read_shape.ensures.opens size) (c.read_counts.ensures.opens size)) in
+    let kept = (c.read_shape.ensures.opens size).frame.files ∙ (c.file_size.ensures.opens size).frame.files in
+    rw c.into.ensures (opens_by-chunks _ _ 2 size name c.counts.result.now c.in-Err.error all.0 all.1
     (refused_chunks size c.counts.result.now c.plan.result c.in-Err.error c.in-Err.is c.plan.ensures.refused)
     (λ e refused. subst (λ (f : Option Files). IsTold f name (λ bytes. grid_refusal size bytes ≡ Some e)) kept
     (told-weaker _ name _ _

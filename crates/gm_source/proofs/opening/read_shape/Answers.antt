@@ -1,22 +1,22 @@
 use Rattle.std.proofs.Common.{◌≡◌, ℕ, length, take, refl, sym, ap, ◌∙◌, arith}
 use Rattle.gm_outside.specs.FramesRules.{only_reads-none}
-use Rattle.gm_source.specs.OpeningsRules.{opens_by-grid, opens_by-more, only_reads-one}
+use Rattle.gm_source.specs.OpeningsRules.{opens_by-grid, opens_by-more}
 use Rattle.gm_source.proofs.Told.{told-weaker, told-both}
 use Rattle.gm_source.proofs.Heads.{too_short, bad_head}
 use Rattle.gm_source.proofs.opening.read_shape.Goals as goal
 
 pub returns-then-size-lt16-clause-opens : goal.returns-then-size-lt16-clause-opens
 returns-then-size-lt16-clause-opens g c chunk_size =
-    opens_by-more g.D.Depot _ _ 0 1 chunk_size c.args.name.now _ (omega arith)
-    (opens_by-grid g.D.Depot _ _ 0 chunk_size c.args.name.now _ (only_reads-none g.D.Depot c.args.depot.now) refl
-    (told-weaker (g.D.Depot.files c.args.depot.now) c.args.name.now _ _ (λ bytes long. too_short chunk_size c.args.size bytes c.if-size-lt16.true long) c.requires.size))
+    opens_by-more _ _ 0 1 chunk_size c.args.name.now _ (omega arith)
+    (opens_by-grid _ _ 0 chunk_size c.args.name.now _ (only_reads-none _) refl
+    (told-weaker (g.D.Depot.state c.args.depot.now).files c.args.name.now _ _ (λ bytes long. too_short chunk_size c.args.size bytes c.if-size-lt16.true long) c.requires.size))
 
 pub returns-in-Err-clause-opens : goal.returns-in-Err-clause-opens
 returns-in-Err-clause-opens g c chunk_size =
     let read = c.in_ok-read_at.ensures in
     let long : length c.read_at.new.into ≡ 16 = omega (arith, c.read_at.auto.into) in
-    opens_by-grid g.D.Depot _ _ 1 chunk_size c.args.name.now _
-    (only_reads-one g.D.Depot _ _ read.files_kept read.calm_kept read.write_faults_kept read.cause.later read.reads) (read.cause.kept (λ is. cc))
-    (told-weaker (g.D.Depot.files c.args.depot.now) c.args.name.now _ _
+    opens_by-grid _ _ 1 chunk_size c.args.name.now _
+    read.frame (read.cause.kept (λ is. cc))
+    (told-weaker (g.D.Depot.state c.args.depot.now).files c.args.name.now _ _
     (λ bytes both. bad_head chunk_size c.args.size c.read_at.new.into bytes c.in-Err.error (sym c.in-Err.ensures.refused) (both.0, both.1.1 ∙ ap (λ (k : ℕ). take k bytes) long))
-    (told-both (g.D.Depot.files c.args.depot.now) c.args.name.now _ _ c.requires.size read.bytes))
+    (told-both (g.D.Depot.state c.args.depot.now).files c.args.name.now _ _ c.requires.size read.bytes))

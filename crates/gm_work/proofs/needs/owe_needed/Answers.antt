@@ -11,7 +11,7 @@ pub returns-clause-needed : goal.returns-clause-needed
 returns-clause-needed c = λ is_active agree.
     let cat = c.args.catalogue.now in
     let overlays = c.args.overlays.now in
-    c.find_needed.ensures
+    c.owed.ensures
     ∙ needed_chunks-agree cat.dimensions c.is_two_way.result (is_in c.args.active.now) is_active _ (λ k. (place_at cat k).block) (sources_under cat overlays) agree
     (λ k. sources-below cat overlays k c.requires.in_rows c.requires.overlays)
     ∙ ap (λ (b : Bool). needed_chunks cat.dimensions b is_active (length cat.places) (λ k. (place_at cat k).block) (sources_under cat overlays)) c.is_two_way.ensures
@@ -20,6 +20,6 @@ pub returns-clause-length : goal.returns-clause-length
 returns-clause-length c =
     let cat = c.args.catalogue.now in
     let needed = is_needed cat.dimensions c.is_two_way.result (is_in c.args.active.now) in
-    ap length c.find_needed.ensures
+    ap length c.owed.ensures
     ∙ length-map-range_with_len (λ k. needed (place_at cat k).block (sources_under cat c.args.overlays.now k)) 0 (length cat.places)
     ∙ sym c.requires.chunks

@@ -37,7 +37,7 @@ returns-in-Some g c = record {
 
 pub check_label-requires-clause-few : goal.check_label-requires-clause-few
 check_label-requires-clause-few g c =
-    let all = whole (g.D.Depot.files c.args.depot.now) c.args.name.now c.args.cat.now c.args.chunk c.read_chunk.new.edges.items c.in_ok-edge.field-0
+    let all = whole (g.D.Depot.state c.args.depot.now).files c.args.name.now c.args.cat.now c.args.chunk c.read_chunk.new.edges.items c.in_ok-edge.field-0
     c.in_default.is c.in_ok-edge.ensures.reads in
     let same = ap (λ (edges : List Edge). length edges) c.as_slice-edges.ensures.value in
     let place = ap (λ p. p.length) c.chunk-first.ensures.value in
@@ -45,7 +45,7 @@ check_label-requires-clause-few g c =
 
 pub check_label-requires-clause-placed : goal.check_label-requires-clause-placed
 check_label-requires-clause-placed g c =
-    let all = whole (g.D.Depot.files c.args.depot.now) c.args.name.now c.args.cat.now c.args.chunk c.read_chunk.new.edges.items c.in_ok-edge.field-0
+    let all = whole (g.D.Depot.state c.args.depot.now).files c.args.name.now c.args.cat.now c.args.chunk c.read_chunk.new.edges.items c.in_ok-edge.field-0
     c.in_default.is c.in_ok-edge.ensures.reads in
     subst (λ (edges : List Edge). All (LiesInChunk c.args.cat.now c.args.chunk) edges) (sym c.as_slice-edges.ensures.value) all.placed
 
@@ -56,7 +56,7 @@ returns-in_err-check_label g c = record {
   told = search rules;
   changed = search rules;
   unchanged = λ bytes found tells is.
-      let files = g.D.Depot.files c.args.depot.now in
+      let files = (g.D.Depot.state c.args.depot.now).files in
       let all = whole files c.args.name.now c.args.cat.now c.args.chunk c.read_chunk.new.edges.items c.in_ok-edge.field-0 c.in_default.is
       c.in_ok-edge.ensures.reads in
       let error = err_is c.from_residual-in_err-check_label.result _ (Changed found) is c.from_residual-in_err-check_label.ensures.1 in
@@ -71,7 +71,7 @@ returns-in_err-check_label g c = record {
 
 pub returns : goal.returns
 returns g c =
-    let all = whole (g.D.Depot.files c.args.depot.now) c.args.name.now c.args.cat.now c.args.chunk c.read_chunk.new.edges.items c.in_ok-edge.field-0
+    let all = whole (g.D.Depot.state c.args.depot.now).files c.args.name.now c.args.cat.now c.args.chunk c.read_chunk.new.edges.items c.in_ok-edge.field-0
     c.in_default.is c.in_ok-edge.ensures.reads in
     let same = c.from_vec.ensures ∙ (λ i. (c.replace-edges.ensures.value i).items) in
     record {

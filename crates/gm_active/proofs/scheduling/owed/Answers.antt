@@ -7,7 +7,7 @@ use Rattle.gm_active.specs.Bits.{is_in}
 use Rattle.gm_active.specs.NeedsRules.{is_needed-append}
 use Rattle.gm_active.specs.Adding.{with_all, is_needed_for}
 use Rattle.gm_active.proofs.Added.{length-with_all, with_both}
-use Rattle.gm_active.proofs.scheduling.find_needed.Goals as goal
+use Rattle.gm_active.proofs.scheduling.owed.Goals as goal
 
 pub add_by_overlays-requires-clause-marks : goal.add_by_overlays-requires-clause-marks
 add_by_overlays-requires-clause-marks c = record {

@@ -7,7 +7,7 @@ use Rattle.gm_active.specs.Needs.{has_source}
 use Rattle.gm_active.specs.NeedsRules.{has_source-append}
 use Rattle.gm_active.specs.Adding.{with_all, between}
 use Rattle.gm_active.proofs.Added.{length-with_all, with_both, between_whole}
-use Rattle.gm_active.proofs.scheduling.find_counted.Goals as goal
+use Rattle.gm_active.proofs.scheduling.owed_in_counting.Goals as goal
 
 pub add_with_added-requires-clause-chunks : goal.add_with_added-requires-clause-chunks
 add_with_added-requires-clause-chunks c =
