@@ -1,9 +1,8 @@
 -- What the histories answer for a version, and what the next update does to them.
-use Rattle.std.proofs.Common.{◌≡◌, ℕ, zero, suc, ◌+◌, ◌<◌, ◌≤◌, ◌||◌, eqb, List, [], ◌∷◌, ◌++◌, length, inl, inr, sym, ap, ◌∙◌, refl, subst, arith}
+use Rattle.std.proofs.Common.{◌≡◌, ℕ, zero, suc, ◌+◌, ◌<◌, ◌≤◌, List, [], ◌∷◌, ◌++◌, length, inl, inr, sym, ap, ◌∙◌, refl, subst, arith}
 use Rattle.std.specs.List.{fold, filter, All}
 use Rattle.std.proofs.lemmas.Bool.{cases_lt}
 use Rattle.std.proofs.lemmas.List.{get_or_append_left, get_or_push, length_push}
-use Rattle.std.proofs.lemmas.List.Folds.{list_any-append}
 use Rattle.std.proofs.lemmas.List.Elements.{All-from_recursion, recursion_from_All, All-same, All-append}
 use Rattle.gm_base.specs.declared.edge.Edge.{Edge}
 use Rattle.gm_base.specs.declared.copies.Key.{Key}
@@ -16,7 +15,7 @@ use Rattle.gm_changes.specs.ConcernsRules.{left_out_by_block}
 use Rattle.gm_label.specs.Catalogues.{Catalogue, sources_at, base_at, IsOver}
 use Rattle.gm_versions.specs.declared.histories.Histories.{Histories}
 use Rattle.gm_versions.specs.declared.versions.Versions.{Versions}
-use Rattle.gm_versions.specs.Contents.{site_at, changes_at, sources_at_after, next_changes_at, added_at_after, content_after, changes_up_to, changes_near, last_update}
+use Rattle.gm_versions.specs.Contents.{site_at, changes_at, sources_at_after, next_changes_at, content_after, changes_up_to, changes_near, last_update}
 use Rattle.gm_versions.specs.Snapshots.{Snapshot}
 use Rattle.gm_versions.specs.Keys.{content_of_key, changes_of_tag, IsUpdateUpTo, IsVersionKey, update_of}
 use Rattle.std.proofs.Math.Seq.{take-append_seam}

@@ -1,8 +1,8 @@
 -- A chunk's history, update by update and change by change.
-use Rattle.std.proofs.Common.{◌≡◌, ℕ, zero, suc, ◌+◌, ◌-◌, ◌<◌, ◌≤◌, Bool, true, false, cond, ◌||◌, ◌&&◌, eqb, ltb, leb, List, [], ◌∷◌, ◌++◌, All, length, map, take, get_or, append_assoc, append-nil, inl, inr, sym, ap, ap₂, ◌∙◌, refl, arith}
+use Rattle.std.proofs.Common.{◌≡◌, ℕ, zero, suc, ◌-◌, ◌<◌, ◌≤◌, Bool, true, false, cond, ◌||◌, ◌&&◌, eqb, ltb, leb, List, [], ◌∷◌, ◌++◌, All, length, map, take, get_or, append_assoc, append-nil, inl, inr, sym, ap, ap₂, ◌∙◌, refl, arith}
 use Rattle.std.specs.List.{fold, filter, AllWithin}
 use Rattle.std.specs.List.Sorted.{IsNonDecreasingBy}
-use Rattle.std.proofs.lemmas.Bool.{cases_lt, cond-true, cond-false, ltb-false, lt-ltb, le-ltb, le-leb, lt-leb, leb-true}
+use Rattle.std.proofs.lemmas.Bool.{cases_lt, cond-true, cond-false, lt-ltb, le-ltb, le-leb, lt-leb, leb-true}
 use Rattle.std.proofs.lemmas.List.{map-append, length_push, get_or_push}
 use Rattle.std.proofs.lemmas.List.Elements.{filter-append, All-cons, All-nil, All-get_or}
 use Rattle.std.proofs.lemmas.List.Sums.{length-filter, count_by-le-length}
@@ -193,6 +193,7 @@ history-noted cat c updates version batch =
     let made = λ (us : List ℕ) (xs : List AddedSource). let now : ChunkHistory = record { updates = us; added = xs } in now in
     changes-touched cat c (suc version) h batch sources (history-lists cat c updates version)
     ∙ ap₂ made (updates-touched (suc version) h next (omega (arith, last, low))) (added-touched (suc version) h next)
+
 -- ---- a history at an earlier version
 
 filter-added : (version number : ℕ) (sources : List ℕ) → added_up_to version (added_by number sources) ≡ cond (leb number version) (added_by number sources) []

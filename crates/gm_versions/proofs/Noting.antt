@@ -1,5 +1,5 @@
 -- One change more, for a chunk and for all of them.
-use Rattle.std.proofs.Common.{◌≡◌, ℕ, ◌+◌, ◌<◌, ◌≤◌, ◌⊎◌, ◌++◌, Bool, false, cond, List, [], ◌∷◌, length, drop, get_or, sym, ap, ◌∙◌}
+use Rattle.std.proofs.Common.{◌≡◌, ℕ, ◌+◌, ◌<◌, ◌≤◌, ◌⊎◌, ◌++◌, Bool, cond, List, [], ◌∷◌, length, drop, get_or, sym, ap, ◌∙◌}
 use Rattle.std.specs.List.{fold}
 use Rattle.std.proofs.lemmas.List.{at_drop_more}
 use Rattle.gm_changes.specs.declared.change.Change.{Change}

@@ -4,15 +4,12 @@ use Rattle.std.specs.List.{AllByRecursion, flat_map, list_any}
 use Rattle.std.proofs.lemmas.Bool.{cases_Bool, cases_lt, cond-true, cond-false}
 use Rattle.std.proofs.lemmas.List.Elements.{All-from_recursion, recursion_from_All, All-push, All-filter, All-head, All-tail, All-take, All-drop, All-weaker}
 use Rattle.gm_base.specs.declared.edge.Edge.{Edge}
-use Rattle.gm_base.specs.declared.copies.Tag.TheVariants.{Update, Own}
 use Rattle.gm_base.specs.Dimensions.{Dimensions, AreDimensions, block_of}
 use Rattle.gm_base.specs.DimensionsRules.{block_below}
 use Rattle.gm_base.specs.Graph.{IsSameGraph, HasEndsBelow, IsGraph}
-use Rattle.gm_base.specs.GraphRules.{count_of}
 use Rattle.gm_changes.specs.declared.change.Change.{Change}
 use Rattle.gm_changes.specs.declared.change.Change.TheVariants.{Add, Cut}
 use Rattle.gm_changes.specs.Changes.{ChangesWithin, is_between, edges_after_one, edges_after}
-use Rattle.gm_changes.specs.ChangesRules.{edges-parts}
 use Rattle.gm_changes.specs.Concerns.{Site, lists, concerns, concerning, sources_after, sources_after_one, IsPlaced, AddsWithin}
 use Rattle.gm_changes.specs.ConcernsRules.{concerning-parts, placed_after}
 use Rattle.gm_changes.specs.JoinedRules.{joined_over_chunks}

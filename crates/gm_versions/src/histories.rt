@@ -98,13 +98,7 @@ impl Histories {
     }
 
     /// Whether a change that comes next after the updates up to a version concerns a chunk.
-    pub(crate) fn concerns(
-        &self,
-        cat: &Catalogue,
-        version: u32,
-        chunk: u32,
-        change: Change,
-    ) -> bool
+    pub(crate) fn concerns(&self, cat: &Catalogue, version: u32, chunk: u32, change: Change) -> bool
         requires chunk { chunk < length cat.now.places }
         requires ends { ChangesWithin cat.now.dimensions.n change }
         ensures { result ≡ concerns cat.now.dimensions (site_at cat.now chunk)

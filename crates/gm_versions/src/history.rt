@@ -160,8 +160,8 @@ impl History {
     fn note_source(&mut self, update: u32, source: u32) -> Result<(), Memory>
         requires { IsUpTo update self.old }
         ensures ok { OnOk result (self.new ≡ record {
-            updates = self.old.updates;
-            added = self.old.added ++ record { update = update; source = source } ∷ [];
+          updates = self.old.updates;
+          added = self.old.added ++ record { update = update; source = source } ∷ [];
         }) }
         ensures err { OnErr result (self.new ≡ self.old) }
     {

@@ -1,18 +1,14 @@
 -- A grid's chunks cut it as a job sees it.
-use Rattle.std.specs.Prelude.{◌≡◌, ℕ, ◌*◌, ◌%◌, ◌<◌, ◌≤◌, true, List, [], ◌∷◌, ◌++◌, length, drop, count_by, All}
-use Rattle.std.specs.List.{list_any, AllByRecursion}
+use Rattle.std.specs.Prelude.{◌≡◌, ℕ, ◌≤◌, true, List, [], ◌++◌, length, drop, count_by, All}
+use Rattle.std.specs.List.{list_any}
 use Rattle.std.proofs.Common.{eqb, append-nil, sym, ap, ◌∙◌, arith}
-use Rattle.std.proofs.Math.Nat.{div-mul-le_self, div-add-mod}
-use Rattle.std.proofs.lemmas.Nat.{mod-mul-add}
-use Rattle.std.proofs.lemmas.List.Elements.{All-weaker, All-take, All-drop, All-from_recursion, recursion_from_All}
+use Rattle.std.proofs.lemmas.List.Elements.{All-weaker, All-take, All-drop}
 use Rattle.gm_base.specs.declared.edge.Edge.{Edge}
 use Rattle.gm_base.specs.declared.job.Spec.{Spec}
 use Rattle.gm_base.specs.declared.limits.TheConstants.{MAX_EDGES}
-use Rattle.gm_base.specs.Dimensions.{Dimensions, AreDimensions, width_of, range_of, block_of}
-use Rattle.gm_base.specs.DimensionsRules.{width_above, range_below}
+use Rattle.gm_base.specs.Dimensions.{AreDimensions}
 use Rattle.gm_base.specs.Graph.{HasEndsBelow, IsGraph, is_same_edge}
 use Rattle.gm_label.specs.Catalogues.{Catalogue, place_at, sources_at, base_at, IsOver}
-use Rattle.gm_active.specs.Needs.{first_destination_of, end_destination_of}
 use Rattle.gm_work.specs.Views.{IsCutIntoChunks}
 use Rattle.gm_work.specs.ViewsRules.{blocks-in_columns}
 use Rattle.gm_work.specs.HeldJobs.{grid_view}

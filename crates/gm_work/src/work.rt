@@ -148,8 +148,8 @@ impl Work {
         requires overlays { AreOverlays (arc_value catalogue) overlays }
         ensures { IfOk result (λ work. work
             ≡ record (admitted_job job spec (arc_value catalogue) overlays) {
-          state = unbegun_state (context_of spec (arc_value catalogue) overlays);
-        }) }
+              state = unbegun_state (context_of spec (arc_value catalogue) overlays);
+            }) }
     {
         let vertices = catalogue.shape().n();
         let n = vertices as usize;
