@@ -8,7 +8,7 @@ use Rattle.gm_base.specs.Graph.{HasEndsBelow}
 use Rattle.gm_outside.specs.declared.traits.Trouble.{Trouble}
 use Rattle.gm_outside.specs.declared.traits.Trouble.TheVariants as troubles
 use Rattle.gm_outside.specs.Causes.{HasExactCause}
-use Rattle.gm_outside.specs.Files.{Files, HasBytesAt}
+use Rattle.gm_outside.specs.Files.{Files, HasBytesAt, HasRange}
 use Rattle.gm_outside.specs.Frames.{OnlyReads}
 use Rattle.gm_outside.specs.States.{DepotState}
 use Rattle.gm_grid.specs.Format.{is_in_block}
@@ -16,7 +16,7 @@ use Rattle.gm_grid.specs.GridBytes.{edges_of_bytes, edges_in, index_end}
 use Rattle.gm_label.specs.declared.chunk.Raw.{Raw}
 use Rattle.gm_label.specs.Labels.{label_of}
 use Rattle.gm_label.specs.Catalogues.{Catalogue, place_at, label_at, base_at}
-use Rattle.gm_source.specs.Openings.{IsCatalogueOf, Decodes, ReadsJust, chunk_reads}
+use Rattle.gm_source.specs.Openings.{IsCatalogueOf, AreBytes, Decodes, ReadsJust, chunk_reads}
 use Rattle.gm_source.specs.declared.fetching.Found.{Found}
 use Rattle.gm_source.specs.declared.fetching.Found.TheVariants.{Stray, Labels}
 use Rattle.gm_source.specs.declared.fetching.FetchError.{FetchError}
@@ -43,7 +43,12 @@ pub record WasRead (told : Option Files) (name : List ℕ) (cat : Catalogue) (c 
   pub bytes : List ℕ
   pub is : read ≡ edges_of_bytes bytes
   pub long : length bytes ≡ 12 * (place_at cat c).count
+  pub small : AreBytes bytes
   pub place : 0 < (place_at cat c).count → IfSome told (λ held. HasBytesAt held name (chunk_start cat c) bytes)
+
+-- the file is there, and holds all of the chunk's edges
+abbrev pub HoldsChunk : Files → List ℕ → Catalogue → ℕ → Type 0
+HoldsChunk held name cat c = HasRange held name (chunk_start cat c) (12 * (place_at cat c).count)
 
 abbrev pub is_in_chunk : Catalogue → ℕ → Edge → Bool
 is_in_chunk cat c e = is_in_block cat.dimensions (place_at cat c).block e

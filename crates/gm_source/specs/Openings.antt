@@ -14,16 +14,15 @@ use Rattle.gm_outside.specs.States.{DepotState}
 use Rattle.gm_grid.specs.declared.grid_error.GridError.TheVariants as grid_errors
 use Rattle.gm_grid.specs.declared.grid_error.IndexError.{IndexError}
 use Rattle.gm_grid.specs.declared.grid_error.IndexError.TheVariants as index_errors
-use Rattle.gm_grid.specs.Format.{IsGrid, AreRangesOf, dimensions_of, edges_of_grid}
+use Rattle.gm_grid.specs.Format.{IsGrid, dimensions_of, edges_of_grid}
 use Rattle.gm_grid.specs.GridBytes.{index_end, shape_in, counts_in, edges_in}
 use Rattle.gm_grid.specs.GridRefusals.{grid_refusal, refusal_by_head, refusal_by_index, refusal_by_chunks, is_misplaced}
 use Rattle.gm_label.specs.declared.chunk.Place.{Place}
 use Rattle.gm_label.specs.declared.plan.PlanError.{PlanError}
 use Rattle.gm_label.specs.declared.plan.PlanError.TheVariants as plan_errors
 use Rattle.gm_label.specs.Chunks.{chunks_of, base_of}
-use Rattle.gm_label.specs.Catalogues.{Catalogue, catalogue_of, labelled_up_to, label_at, place_at, first_source_of, end_source_of}
+use Rattle.gm_label.specs.Catalogues.{Catalogue, catalogue_of, labelled_up_to, label_at, place_at}
 use Rattle.gm_source.specs.declared.errors.OpenError.{OpenError}
-use Rattle.gm_source.specs.declared.labelling.Block.{Block}
 use Rattle.gm_source.specs.declared.errors.OpenError.TheVariants.{Missing, Grid, Fault, Memory}
 
 abbrev pub error_of_trouble : Trouble → OpenError
@@ -46,12 +45,6 @@ pub record IsCatalogueOf (bytes : List ℕ) (size : ℕ) (cat : Catalogue) : Typ
   pub grid : IsGrid bytes n parts blocks
   pub few : refusal_by_chunks size (map (λ edges. length edges) blocks) ≡ None
   pub all : cat ≡ catalogue_of (dimensions_of n parts) size (map (λ edges. length edges) blocks) (edges_of_grid blocks)
-
--- what is kept of a block while its chunks are labelled
-pub record IsBlock (d : Dimensions) (b : Block) : Type 0 where
-  pub ranges : AreRangesOf d b.number b.ranges
-  pub first : b.first_source ≡ first_source_of d b.number
-  pub end : b.end_source ≡ end_source_of d b.number
 
 -- where the files are told, the file of this name is there, and this holds of its bytes
 abbrev pub IsTold : Option Files → List ℕ → (List ℕ → Type 0) → Type 0

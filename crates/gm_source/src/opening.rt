@@ -12,7 +12,7 @@ ghost use Rattle.gm_label.specs.Catalogues.{unlabelled};
 ghost use Rattle.gm_source.specs.Openings.{OpensBy, ReadsJust, ReadsUpTo, IsTold, HasHead, HasIndex, HasLabelled, IsPlanned, IsRefusedByIndex, IsRefusedByChunks, IsCatalogueOf, file_reads, opening_reads};
 
 use crate::OpenError;
-use crate::labelling::label_plan;
+use crate::fetching::Fetcher;
 use crate::reading::{are_bytes, zeros};
 use gm_base::Shape;
 use gm_grid::laws::{grid_by_parts, grid_reads_back, refused_where_no_grid};
@@ -167,6 +167,6 @@ pub fn open_grid<D: Depot>(
     grid_reads_back();
     grid_by_parts();
     let mut cat = read_plan(alloc, depot, name, chunk_size)?;
-    label_plan(alloc, depot, name, chunk_size, &mut cat)?;
+    Fetcher::new(alloc).label_plan(depot, name, chunk_size, &mut cat)?;
     Ok(cat)
 }
