@@ -1,15 +1,14 @@
 //! What callers learn from the contracts of several calls, one after the other.
-ghost use Rattle.std.specs.Prelude.{◌≡◌, ◌++◌, ◌⊎◌, [], ◌∷◌, Some, None, IfSome, IfOk, OnOk, OnErr, IsErrOf, IsTrue};
+ghost use Rattle.std.specs.Prelude.{◌≡◌, ◌+◌, ◌≤◌, ◌++◌, ◌⊎◌, [], ◌∷◌, Some, None, IfSome, IfOk, OnOk, OnErr, IsErrOf, IsTrue};
 ghost use Rattle.std.specs.FinMap as map;
 ghost use Rattle.gm_outside.specs.Changes.{with_file, HoldsPrefix};
-ghost use Rattle.gm_outside.specs.Causes.{counted, HasCause, HasExactCause};
-ghost use Rattle.gm_outside.specs.Frames.{OnlyReads, Writes};
-ghost use Rattle.gm_outside.specs.Calls.{depot_change, sink_change};
+ghost use Rattle.gm_outside.specs.Causes.{counted};
+ghost use Rattle.gm_outside.specs.Frames.{OnlyReads, OnlyWrites, CountsFaults, CountsWriteFaults, Writes};
 ghost use Rattle.gm_fakes.specs.Memory.{next_limit};
 
 use crate::mem_depot::MemDepot;
 use crate::mem_sink::MemSink;
-use gm_outside::{Depot, Sink, Trouble, read_whole};
+use gm_outside::{Depot, MAX_COUNT, Sink, Trouble, read_whole};
 use std::alloc::Global;
 use std::test::Fail;
 
@@ -22,11 +21,15 @@ fn read_two<D: Depot>(
     first: &str,
     second: &str,
 ) -> Result<Option<Pair>, Trouble>
-    ensures bytes { IfSome (D.files depot.old) (λ files. IfOk result (λ both. IfSome both (λ pair.
+    ensures bytes { IfSome (D.state depot.old).files (λ files. IfOk result (λ both. IfSome both (λ pair.
         (map.get files first.now ≡ Some pair.0.items) × (map.get files second.now ≡ Some pair.1.items)))) }
-    ensures cause { HasExactCause Trouble.Failed (D.faults depot.old) (D.faults depot.new) result }
-    ensures calm { IsTrue (D.calm depot.old) → IsErrOf result Trouble.Failed → ⊥ }
-    ensures reads { OnlyReads 2 (depot_change ⟦<D as Depot>⟧ depot.old depot.new) }
+    ensures cause { CountsFaults (D.state depot.old) (D.state depot.new) result }
+    ensures calm { IsTrue (D.state depot.old).calm → IsErrOf result Trouble.Failed → ⊥ }
+    ensures frame { IfOk result (λ both. IfSome both (λ _. OnlyReads 2 2 (D.state depot.old) (D.state depot.new))) }
+    ensures files { (D.state depot.new).files ≡ (D.state depot.old).files }
+    ensures calm_kept { (D.state depot.new).calm ≡ (D.state depot.old).calm }
+    ensures write_faults { (D.state depot.new).write_faults ≡ (D.state depot.old).write_faults }
+    ensures reads { (D.state depot.new).reads ≤ (D.state depot.old).reads + 2 }
 {
     let Some(first_size) = depot.size(first)? else {
         return Ok(None);
@@ -42,7 +45,7 @@ fn read_two<D: Depot>(
 // What a caller learns of two pieces that it writes one after the other.
 #[tactic(auto, using(gm_outside::specs::FramesRules::frames))]
 fn write_two<K: Sink>(sink: &mut K, first: &[u8], second: &[u8]) -> Result<(), Trouble>
-    ensures { Writes (first.now ++ second.now) (sink_change ⟦<K as Sink>⟧ sink.old sink.new) result }
+    ensures { Writes (first.now ++ second.now) (K.state sink.old) (K.state sink.new) result }
 {
     sink.write(first)?;
     sink.write(second)
@@ -56,12 +59,13 @@ fn write_file<D: Depot>(
     first: &[u8],
     second: &[u8],
 ) -> Result<(), Trouble>
-    ensures ok { OnOk result (D.files depot.new ≡ with_file (D.files depot.old) name.now (first.now ++ second.now)) }
-    ensures err { OnErr result ((D.files depot.new ≡ D.files depot.old)
-        ⊎ HoldsPrefix (D.files depot.old) (D.files depot.new) name.now (first.now ++ second.now)) }
-    ensures cause { HasExactCause Trouble.Failed (D.faults depot.old) (D.faults depot.new) result }
-    ensures write_cause { HasCause Trouble.Failed (D.write_faults depot.old) (D.write_faults depot.new) result }
-    ensures reads_kept { D.reads depot.new ≡ D.reads depot.old }
+    ensures ok { OnOk result ((D.state depot.new).files
+        ≡ with_file (D.state depot.old).files name.now (first.now ++ second.now)) }
+    ensures err { OnErr result (((D.state depot.new).files ≡ (D.state depot.old).files)
+        ⊎ HoldsPrefix (D.state depot.old).files (D.state depot.new).files name.now (first.now ++ second.now)) }
+    ensures cause { CountsFaults (D.state depot.old) (D.state depot.new) result }
+    ensures write_cause { CountsWriteFaults (D.state depot.old) (D.state depot.new) result }
+    ensures frame { OnlyWrites (D.state depot.old) (D.state depot.new) }
 {
     depot.create(name)?;
     depot.append(name, first)?;
@@ -71,9 +75,21 @@ fn write_file<D: Depot>(
 
 fn definitions()
     ensures next { counted 7 ≡ 8 }
-    ensures last { counted 18446744073709551615 ≡ 18446744073709551615 }
-    ensures limited { next_limit (record { written = []; fails = (2, 3) ∷ (2, 4) ∷ []; writes = 1; faults = 0; lacks = 0 }) ≡ Some 3 }
-    ensures free { next_limit (record { written = []; fails = (2, 3) ∷ []; writes = 2; faults = 0; lacks = 0 }) ≡ None }
+    ensures last { counted MAX_COUNT ≡ MAX_COUNT }
+    ensures limited { next_limit (record {
+      written = [];
+      fails = (2, 3) ∷ (2, 4) ∷ [];
+      writes = 1;
+      faults = 0;
+      lacks = 0;
+    }) ≡ Some 3 }
+    ensures free { next_limit (record {
+      written = [];
+      fails = (2, 3) ∷ [];
+      writes = 2;
+      faults = 0;
+      lacks = 0;
+    }) ≡ None }
 {}
 
 #[test]

@@ -1,9 +1,8 @@
 //! A depot in memory, one of whose files changes under its reader.
-ghost use Rattle.std.specs.Prelude.{◌≡◌, ◌≢◌, ◌↔◌, [], None, false, length, Contains, EachIndex, IsNone, IsSome, IfErr, IfOk, IsErr, IsErrOf, IsOk, OnOk, is_ok, slice_index};
-ghost use Rattle.std.specs.FinMap as map;
-ghost use Rattle.gm_outside.specs.Changes.{append_to};
+ghost use Rattle.std.specs.Prelude.{◌≡◌, ◌≢◌, ◌↔◌, length, EachIndex, IfErr, IfOk, IsErr, IsOk, OnOk, is_ok, slice_index};
 ghost use Rattle.gm_outside.specs.Causes.{counted, HasCause, HasExactCause};
 ghost use Rattle.gm_outside.specs.Files.{size_of, HasRange, HasBytesAt};
+ghost use Rattle.gm_outside.specs.States.{untold};
 
 use crate::mem_depot::{Call, MemDepot};
 use gm_outside::{Depot, Trouble};
@@ -42,25 +41,19 @@ impl DriftDepot {
 }
 
 impl Depot for DriftDepot {
-    ghost use Rattle.gm_fakes.specs.Memory.{with_answer, GivesUpWriting};
+    ghost use Rattle.gm_fakes.specs.Memory.{with_answer, Appends, Creates, IsNextToFail};
 
-    ghost files = { λ _. None };
-
-    ghost calm = { λ _. false };
-
-    ghost faults = { λ drift. drift.depot.faults };
-
-    ghost reads = { λ drift. drift.depot.reads };
-
-    ghost write_faults = { λ drift. drift.depot.write_faults };
+    ghost state = { λ drift.
+        untold drift.depot.faults drift.depot.write_faults drift.depot.reads drift.depot.sizes };
 
     ghost calm_tells = { λ _ h. h };
 
     fn size(&mut self, name: &str) -> Result<Option<u64>, Trouble>
-        ensures fails { IsErr result ↔ Contains self.old.depot.fails (Call.Size, counted self.old.depot.sizes) }
+        ensures fails { IsErr result ↔ IsNextToFail Call.Size self.old.depot }
         ensures ok { IfOk result (λ size. size ≡ size_of self.old.depot.files name.now) }
         ensures cause { HasExactCause Trouble.Failed self.old.depot.faults self.new.depot.faults result }
-        ensures after { self.new ≡ record self.old { depot = with_answer Call.Size (is_ok result) self.old.depot } }
+        ensures after { self.new
+            ≡ record self.old { depot = with_answer Call.Size (is_ok result) self.old.depot } }
     {
         self.depot.size(name)
     }
@@ -70,14 +63,15 @@ impl Depot for DriftDepot {
         ensures drifted { counted self.old.depot.reads ≡ self.old.read
             → EachIndex into.new (λ at. slice_index into.new at ≡ slice_index self.old.bytes.items at) }
         ensures listed { counted self.old.depot.reads ≢ self.old.read
-            → Contains self.old.depot.fails (Call.Read, counted self.old.depot.reads) → IsErr result }
+            → IsNextToFail Call.Read self.old.depot → IsErr result }
         ensures ok { counted self.old.depot.reads ≢ self.old.read
             → OnOk result (HasBytesAt self.old.depot.files name.now pos into.new) }
         ensures works { HasRange self.old.depot.files name.now pos (length into.old)
-            → (Contains self.old.depot.fails (Call.Read, counted self.old.depot.reads) → ⊥) → IsOk result }
+            → (IsNextToFail Call.Read self.old.depot → ⊥) → IsOk result }
         ensures err { IfErr result (λ trouble. trouble ≡ Trouble.Failed) }
         ensures cause { HasExactCause Trouble.Failed self.old.depot.faults self.new.depot.faults result }
-        ensures after { self.new ≡ record self.old { depot = with_answer Call.Read (is_ok result) self.old.depot } }
+        ensures after { self.new
+            ≡ record self.old { depot = with_answer Call.Read (is_ok result) self.old.depot } }
     {
         if self.depot.reads().saturating_add(1) != self.read {
             return self.depot.read_at(name, pos, into);
@@ -88,12 +82,7 @@ impl Depot for DriftDepot {
     }
 
     fn create(&mut self, name: &str) -> Result<(), Trouble>
-        ensures fails { IsErrOf result Trouble.Failed ↔ Contains self.old.depot.fails (Call.Create, counted self.old.depot.creates) }
-        ensures ok { OnOk result (self.new.depot ≡ record self.old.depot {
-          files = map.insert self.old.depot.files name.now [];
-          creates = counted self.old.depot.creates;
-        }) }
-        ensures gave_up { GivesUpWriting Call.Create self.old.depot self.new.depot result }
+        ensures creates { Creates name.now self.old.depot self.new.depot result }
         ensures kept { self.new ≡ record self.old { depot = self.new.depot } }
         ensures cause { HasExactCause Trouble.Failed self.old.depot.faults self.new.depot.faults result }
         ensures write_cause { HasCause Trouble.Failed self.old.depot.write_faults self.new.depot.write_faults result }
@@ -102,16 +91,7 @@ impl Depot for DriftDepot {
     }
 
     fn append(&mut self, name: &str, bytes: &[u8]) -> Result<(), Trouble>
-        ensures listed { Contains self.old.depot.fails (Call.Append, counted self.old.depot.appends) → IsErrOf result Trouble.Failed }
-        ensures missing { IsNone (map.get self.old.depot.files name.now) → IsErrOf result Trouble.Failed }
-        ensures fails_only { IsErrOf result Trouble.Failed
-            → IsSome (map.get self.old.depot.files name.now)
-            → Contains self.old.depot.fails (Call.Append, counted self.old.depot.appends) }
-        ensures ok { OnOk result (self.new.depot ≡ record self.old.depot {
-          files = append_to self.old.depot.files name.now bytes.now;
-          appends = counted self.old.depot.appends;
-        }) }
-        ensures gave_up { GivesUpWriting Call.Append self.old.depot self.new.depot result }
+        ensures appends { Appends name.now bytes.now self.old.depot self.new.depot result }
         ensures kept { self.new ≡ record self.old { depot = self.new.depot } }
         ensures cause { HasExactCause Trouble.Failed self.old.depot.faults self.new.depot.faults result }
         ensures write_cause { HasCause Trouble.Failed self.old.depot.write_faults self.new.depot.write_faults result }

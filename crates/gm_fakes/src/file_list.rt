@@ -54,7 +54,8 @@ impl FileList {
     /// The bytes of a file from `pos` on, where it has as many.
     pub(crate) fn range(&self, name: &str, pos: u64, count: usize) -> Option<&[u8]>
         ensures missing { IfNone result (HasRange self.now name.now pos count → ⊥) }
-        ensures found { IfSome result (λ part. (length part.now ≡ count) × HasBytesAt self.now name.now pos part.now) }
+        ensures found { IfSome result (λ part. (length part.now ≡ count)
+            × HasBytesAt self.now name.now pos part.now) }
     {
         let bytes = self.get(name)?;
         if pos > bytes.len() as u64 || count > bytes.len() - pos as usize {

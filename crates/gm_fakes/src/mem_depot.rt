@@ -1,8 +1,8 @@
 //! A depot in memory, whose calls can be made to fail.
-ghost use Rattle.std.specs.Prelude.{◌≡◌, ◌↔◌, ◌≤◌, [], IsSome, IsNone, IsErrOf, Option, Some, length, Contains, IsTrue, IsOk, IsErr, IfOk, OnOk, OnErr, IfErr, is_ok, refl};
+ghost use Rattle.std.specs.Prelude.{◌≡◌, ◌↔◌, ◌≤◌, [], Some, length, Contains, IsTrue, IsOk, IsErr, IfOk, OnOk, OnErr, IfErr, is_ok, refl};
 ghost use Rattle.std.specs.Option.{option_copied};
 ghost use Rattle.std.specs.FinMap as map;
-ghost use Rattle.gm_outside.specs.Changes.{append_to, with_file, with_appended, AppendedPrefix};
+ghost use Rattle.gm_outside.specs.Changes.{with_file, with_appended, AppendedPrefix};
 ghost use Rattle.gm_outside.specs.Causes.{counted, HasCause, HasExactCause};
 ghost use Rattle.gm_outside.specs.Files.{Files, size_of, HasRange, HasBytesAt};
 
@@ -42,9 +42,9 @@ pub struct MemDepot {
 
 impl Model for MemDepot {
     ghost use Rattle.gm_fakes.specs.contracts.mem_depot.Call as call;
-    ghost use Rattle.gm_fakes.specs.Memory.{DepotState, state_code};
+    ghost use Rattle.gm_fakes.specs.Memory.{HeldFiles, state_code};
 
-    ghost Value = { DepotState };
+    ghost Value = { HeldFiles };
 
     ghost coded = { state_code call.the_row.coded };
 
@@ -90,7 +90,8 @@ impl MemDepot {
 
     /// Stores a whole file in place of one of its name. It fails only for want of memory.
     pub fn put(&mut self, name: &str, bytes: &[u8]) -> Result<(), Memory>
-        ensures ok { OnOk result (self.new ≡ record self.old { files = map.insert self.old.files name.now bytes.now }) }
+        ensures ok { OnOk result (self.new
+            ≡ record self.old { files = map.insert self.old.files name.now bytes.now }) }
         ensures err { OnErr result (self.new ≡ self.old) }
     {
         self.files.put(name, bytes)?;
@@ -169,22 +170,14 @@ impl MemDepot {
 
 #[tactic(auto, using(gm_outside::specs::ChangesRules::changes))]
 impl Depot for MemDepot {
-    ghost use Rattle.gm_fakes.specs.Memory.{is_calm, with_answer, GivesUpWriting};
+    ghost use Rattle.gm_fakes.specs.Memory.{told_of_files, with_answer, Appends, Creates, IsNextToFail};
 
-    ghost files = { λ depot. Some depot.files };
-
-    ghost calm = { is_calm };
-
-    ghost faults = { λ depot. depot.faults };
-
-    ghost reads = { λ depot. depot.reads };
-
-    ghost write_faults = { λ depot. depot.write_faults };
+    ghost state = { told_of_files };
 
     ghost calm_tells = { λ _ _. refl };
 
     fn size(&mut self, name: &str) -> Result<Option<u64>, Trouble>
-        ensures fails { IsErr result ↔ Contains self.old.fails (Call.Size, counted self.old.sizes) }
+        ensures fails { IsErr result ↔ IsNextToFail Call.Size self.old }
         ensures ok { IfOk result (λ size. size ≡ size_of self.old.files name.now) }
         ensures err { IfErr result (λ trouble. trouble ≡ Trouble.Failed) }
         ensures cause { HasExactCause Trouble.Failed self.old.faults self.new.faults result }
@@ -197,10 +190,10 @@ impl Depot for MemDepot {
     }
 
     fn read_at(&mut self, name: &str, pos: u64, into: &mut [u8]) -> Result<(), Trouble>
-        ensures listed { Contains self.old.fails (Call.Read, counted self.old.reads) → IsErr result }
+        ensures listed { IsNextToFail Call.Read self.old → IsErr result }
         ensures ok { OnOk result (HasBytesAt self.old.files name.now pos into.new) }
         ensures works { HasRange self.old.files name.now pos (length into.old)
-            → (Contains self.old.fails (Call.Read, counted self.old.reads) → ⊥) → IsOk result }
+            → (IsNextToFail Call.Read self.old → ⊥) → IsOk result }
         ensures err { IfErr result (λ trouble. trouble ≡ Trouble.Failed) }
         ensures cause { HasExactCause Trouble.Failed self.old.faults self.new.faults result }
         ensures after { self.new ≡ with_answer Call.Read (is_ok result) self.old }
@@ -218,13 +211,8 @@ impl Depot for MemDepot {
     }
 
     fn create(&mut self, name: &str) -> Result<(), Trouble>
-        ensures fails { IsErrOf result Trouble.Failed ↔ Contains self.old.fails (Call.Create, counted self.old.creates) }
-        ensures ok { OnOk result (self.new ≡ record self.old {
-          files = map.insert self.old.files name.now [];
-          creates = counted self.old.creates;
-        }) }
+        ensures creates { Creates name.now self.old self.new result }
         ensures told { OnOk result (Some self.new.files ≡ with_file (Some self.old.files) name.now []) }
-        ensures gave_up { GivesUpWriting Call.Create self.old self.new result }
         ensures cause { HasExactCause Trouble.Failed self.old.faults self.new.faults result }
         ensures write_cause { HasCause Trouble.Failed self.old.write_faults self.new.write_faults result }
     {
@@ -236,18 +224,10 @@ impl Depot for MemDepot {
     }
 
     fn append(&mut self, name: &str, bytes: &[u8]) -> Result<(), Trouble>
-        ensures listed { Contains self.old.fails (Call.Append, counted self.old.appends) → IsErrOf result Trouble.Failed }
-        ensures missing { IsNone (map.get self.old.files name.now) → IsErrOf result Trouble.Failed }
-        ensures fails_only { IsErrOf result Trouble.Failed
-            → IsSome (map.get self.old.files name.now)
-            → Contains self.old.fails (Call.Append, counted self.old.appends) }
-        ensures ok { OnOk result (self.new ≡ record self.old {
-          files = append_to self.old.files name.now bytes.now;
-          appends = counted self.old.appends;
-        }) }
-        ensures told { OnOk result (Some self.new.files ≡ with_appended (Some self.old.files) name.now bytes.now) }
-        ensures told_prefix { OnErr result (AppendedPrefix (Some self.old.files) (Some self.new.files) name.now bytes.now) }
-        ensures gave_up { GivesUpWriting Call.Append self.old self.new result }
+        ensures appends { Appends name.now bytes.now self.old self.new result }
+        ensures told { OnOk result (Some self.new.files
+            ≡ with_appended (Some self.old.files) name.now bytes.now) }
+        ensures prefix { OnErr result (AppendedPrefix (Some self.old.files) (Some self.new.files) name.now bytes.now) }
         ensures cause { HasExactCause Trouble.Failed self.old.faults self.new.faults result }
         ensures write_cause { HasCause Trouble.Failed self.old.write_faults self.new.write_faults result }
     {

@@ -19,11 +19,17 @@ pub struct MemSink {
 }
 
 impl Model for MemSink {
-    ghost use Rattle.gm_fakes.specs.Memory.{SinkState};
+    ghost use Rattle.gm_fakes.specs.Memory.{HeldBytes};
 
-    ghost Value = { SinkState };
+    ghost Value = { HeldBytes };
 
-    ghost view = { λ sink. record { written = sink.held.items; fails = sink.fails.items; writes = sink.writes; faults = sink.faults; lacks = sink.lacks } };
+    ghost view = { λ sink. record {
+      written = sink.held.items;
+      fails = sink.fails.items;
+      writes = sink.writes;
+      faults = sink.faults;
+      lacks = sink.lacks;
+    } };
 }
 
 impl MemSink {
@@ -75,13 +81,9 @@ impl MemSink {
 }
 
 impl Sink for MemSink {
-    ghost use Rattle.gm_fakes.specs.Memory.{next_limit};
+    ghost use Rattle.gm_fakes.specs.Memory.{next_limit, told_of_bytes};
 
-    ghost written = { λ sink. Some sink.written };
-
-    ghost faults = { λ sink. sink.faults };
-
-    ghost lacks = { λ sink. sink.lacks };
+    ghost state = { told_of_bytes };
 
     #[tactic(auto, using(gm_outside::specs::GrowthRules::growth))]
     fn write(&mut self, piece: &[u8]) -> Result<(), Trouble>
@@ -94,11 +96,12 @@ impl Sink for MemSink {
           written = self.old.written ++ piece.now;
           writes = counted self.old.writes;
         }) }
-        ensures failed { IsErrOf result Trouble.Failed → IsSomeAnd (next_limit self.old) (λ most. self.new ≡ record self.old {
-          written = self.old.written ++ take most piece.now;
-          writes = counted self.old.writes;
-          faults = counted self.old.faults;
-        }) }
+        ensures failed { IsErrOf result Trouble.Failed
+            → IsSomeAnd (next_limit self.old) (λ most. self.new ≡ record self.old {
+              written = self.old.written ++ take most piece.now;
+              writes = counted self.old.writes;
+              faults = counted self.old.faults;
+            }) }
         ensures memory { IsErrOf result Trouble.Memory → self.new ≡ record self.old {
           writes = counted self.old.writes;
           lacks = counted self.old.lacks;

@@ -79,15 +79,7 @@ impl<D: Depot> NotingDepot<D> {
 }
 
 impl<D: Depot> Depot for NotingDepot<D> {
-    ghost files = { λ noting. D.files noting.depot };
-
-    ghost calm = { λ noting. D.calm noting.depot };
-
-    ghost faults = { λ noting. D.faults noting.depot };
-
-    ghost reads = { λ noting. D.reads noting.depot };
-
-    ghost write_faults = { λ noting. D.write_faults noting.depot };
+    ghost state = { λ noting. D.state noting.depot };
 
     ghost calm_tells = { λ noting. D.calm_tells noting.depot };
 

@@ -4,5 +4,5 @@
 mod line;
 mod pieces;
 
-pub use line::{Line, MAX_LINE_BYTES};
+pub use line::{Line, MAX_LINE_BYTES, MAX_WIDE_DIGITS};
 pub use pieces::{PIECE, Pieces, write_texts};

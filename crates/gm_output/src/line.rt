@@ -10,6 +10,9 @@ use std::marker::Model;
 /// How many bytes a line has at most.
 pub const MAX_LINE_BYTES: usize = 160;
 
+/// How many decimal digits a number of 128 bits has at most.
+pub const MAX_WIDE_DIGITS: usize = 39;
+
 /// The bytes of a line: a text of at most [`MAX_LINE_BYTES`] bytes.
 #[derive(Drop)]
 pub struct Line {
@@ -55,11 +58,11 @@ impl Line {
         self.text(buffer.format(number).as_bytes());
     }
 
-    /// Adds a number of up to 128 bits in decimal, at most 39 digits.
+    /// Adds a number of up to 128 bits in decimal, at most [`MAX_WIDE_DIGITS`] digits.
     pub fn wide_number(&mut self, number: u128)
-        requires { length self.old + 39 ≤ MAX_LINE_BYTES }
+        requires { length self.old + MAX_WIDE_DIGITS ≤ MAX_LINE_BYTES }
         ensures text { self.new ≡ self.old ++ decimal number }
-        ensures short { length self.new ≤ length self.old + 39 }
+        ensures short { length self.new ≤ length self.old + MAX_WIDE_DIGITS }
     {
         let mut buffer = Buffer::new();
         self.text(buffer.format(number).as_bytes());

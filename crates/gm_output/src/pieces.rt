@@ -2,7 +2,6 @@
 
 ghost use Rattle.std.specs.Prelude.{◌≡◌, ◌+◌, ◌≤◌, [], ◌++◌, length, OnErr};
 ghost use Rattle.arrayvec.specs.ArrayVec.{array_vec_len};
-ghost use Rattle.gm_outside.specs.Calls.{sink_change};
 ghost use Rattle.gm_outside.specs.Frames.{Writes};
 ghost use Rattle.gm_output.specs.Pieces.{Feeds, texts_of};
 
@@ -13,7 +12,7 @@ use std::marker::Model;
 /// How many bytes one write takes at most.
 pub const PIECE: usize = 4096;
 
-/// What of a text isn't written yet. Each write takes 4,096 bytes, the last one what is left.
+/// What of a text isn't written yet. Each write takes [`PIECE`] bytes, the last one what is left.
 #[derive(Drop)]
 pub struct Pieces {
     pending: ArrayVec<u8, PIECE>,
@@ -33,7 +32,7 @@ impl Pieces {
     /// pending.
     pub fn push<K: Sink>(&mut self, sink: &mut K, bytes: &[u8]) -> Result<(), Trouble>
         requires { length bytes.now ≤ PIECE }
-        ensures fed { Feeds self.old self.new bytes.now (sink_change ⟦<K as Sink>⟧ sink.old sink.new) result }
+        ensures fed { Feeds self.old self.new bytes.now (K.state sink.old) (K.state sink.new) result }
         ensures dropped { OnErr result (self.new ≡ []) }
     {
         let room = PIECE - self.pending.len();
@@ -50,7 +49,7 @@ impl Pieces {
 
     /// Writes what is pending. Then nothing is, also after a refusal.
     fn send<K: Sink>(&mut self, sink: &mut K) -> Result<(), Trouble>
-        ensures writes { Writes self.old (sink_change ⟦<K as Sink>⟧ sink.old sink.new) result }
+        ensures writes { Writes self.old (K.state sink.old) (K.state sink.new) result }
         ensures nothing { self.new ≡ [] }
     {
         let written = sink.write(self.pending.as_slice());
@@ -60,7 +59,7 @@ impl Pieces {
 
     /// The same for bytes of any length.
     pub fn push_all<K: Sink>(&mut self, sink: &mut K, bytes: &[u8]) -> Result<(), Trouble>
-        ensures fed { Feeds self.old self.new bytes.now (sink_change ⟦<K as Sink>⟧ sink.old sink.new) result }
+        ensures fed { Feeds self.old self.new bytes.now (K.state sink.old) (K.state sink.new) result }
         ensures dropped { OnErr result (self.new ≡ []) }
     {
         let mut rest = bytes;
@@ -74,7 +73,7 @@ impl Pieces {
 
     /// The same for one text after the other.
     fn push_texts<K: Sink>(&mut self, sink: &mut K, texts: &[&[u8]]) -> Result<(), Trouble>
-        ensures { Feeds self.old self.new (texts_of texts.now) (sink_change ⟦<K as Sink>⟧ sink.old sink.new) result }
+        ensures { Feeds self.old self.new (texts_of texts.now) (K.state sink.old) (K.state sink.new) result }
     {
         for text in texts {
             self.push_all(sink, text)?;
@@ -84,7 +83,7 @@ impl Pieces {
 
     /// Writes what is left of the text.
     pub fn finish<K: Sink>(self, sink: &mut K) -> Result<(), Trouble>
-        ensures { Writes self (sink_change ⟦<K as Sink>⟧ sink.old sink.new) result }
+        ensures { Writes self (K.state sink.old) (K.state sink.new) result }
     {
         if self.pending.is_empty() {
             return Ok(());
@@ -103,7 +102,7 @@ impl Model for Pieces {
 
 /// Writes one text after the other, in one write where they are short. After a refusal a first part of them was written.
 pub fn write_texts<K: Sink>(sink: &mut K, texts: &[&[u8]]) -> Result<(), Trouble>
-    ensures { Writes (texts_of texts.now) (sink_change ⟦<K as Sink>⟧ sink.old sink.new) result }
+    ensures { Writes (texts_of texts.now) (K.state sink.old) (K.state sink.new) result }
 {
     let mut pieces = Pieces::new();
     pieces.push_texts(sink, texts)?;

@@ -7,4 +7,4 @@ unfolding result_lines
 returns g c =
     let first = c.in_ok-push.ensures.fed in
     let second = c.push_values.ensures in
-    rw (← c.job_line-line.ensures.text, ← c.values_of.ensures, ← c.as_slice.ensures) (feeds-then g.K.Sink _ _ _ _ _ _ _ _ _ _ first second)
+    rw (← c.job_line-line.ensures.text, ← c.values_of.ensures, ← c.as_slice.ensures) (feeds-then _ _ _ _ _ _ _ _ _ _ first second)

@@ -18,16 +18,16 @@ jobs-next jobs i job h is =
 
 pub loop-job-preserved : goal.loop-job-preserved
 loop-job-preserved g c =
-    fed-more g.K.Sink _ _ _ _ _ _ _ _ _ _ _ (jobs-next c.args.jobs.now c.loop-job.job-index _ (omega arith) c.job-item.is) c.loop-job.invariant c.in_ok-push_job.ensures
+    fed-more _ _ _ _ _ _ _ _ _ _ _ (jobs-next c.args.jobs.now c.loop-job.job-index _ (omega arith) c.job-item.is) c.loop-job.invariant c.in_ok-push_job.ensures
 
 pub returns-in_err-push_job : goal.returns-in_err-push_job
 unfolding report_text
 returns-in_err-push_job g c =
     let p = err_from_is_err_and c.from_residual.result c.from_residual.ensures.1 in
-    fed-refused g.K.Sink _ _ _ _ _ _ _ _ _ _ _ (Err _) _ refl (ap result_err (p.1 ∙ ap Err p.2))
+    fed-refused _ _ _ _ _ _ _ _ _ _ _ (Err _) _ refl (ap result_err (p.1 ∙ ap Err p.2))
     (jobs-next c.args.jobs.now c.loop-job.job-index _ (omega arith) c.job-item.is) c.loop-job.invariant c.in_err-push_job.ensures
 
 pub returns : goal.returns
 unfolding report_text
 returns g c =
-    fed-all g.K.Sink _ _ _ _ _ _ (ap (flat_map result_lines) (drop_all c.loop-job.job-index c.args.jobs.now (omega arith))) c.loop-job.invariant
+    fed-all _ _ _ _ _ _ (ap (flat_map result_lines) (drop_all c.loop-job.job-index c.args.jobs.now (omega arith))) c.loop-job.invariant

@@ -15,21 +15,21 @@ value_lines-next values i line h is =
     ∙ ap (λ (front : List ℕ). front ++ value_lines (i + 1) (drop (i + 1) values)) (sym is)
 
 pub loop-vertex-init : goal.loop-vertex-init
-loop-vertex-init g c = fed-none g.K.Sink _ _ _
+loop-vertex-init g c = fed-none _ _ _
 
 pub loop-vertex-preserved : goal.loop-vertex-preserved
 loop-vertex-preserved g c =
-    fed-more g.K.Sink _ _ _ _ _ _ _ _ _ _ _
+    fed-more _ _ _ _ _ _ _ _ _ _ _
     (value_lines-next c.args.values.now c.loop-vertex.vertex c.as_slice.result.now (omega arith) (c.as_slice.ensures ∙ c.value_line-line.ensures.text))
     c.loop-vertex.invariant c.in_ok-push.ensures.fed
 
 pub returns-in_err-push : goal.returns-in_err-push
 returns-in_err-push g c =
     let p = err_from_is_err_and c.from_residual.result c.from_residual.ensures.1 in
-    fed-refused g.K.Sink _ _ _ _ _ _ _ _ _ _ _ (Err _) _ refl (ap result_err (p.1 ∙ ap Err p.2))
+    fed-refused _ _ _ _ _ _ _ _ _ _ _ (Err _) _ refl (ap result_err (p.1 ∙ ap Err p.2))
     (value_lines-next c.args.values.now c.loop-vertex.vertex c.as_slice.result.now (omega arith) (c.as_slice.ensures ∙ c.value_line-line.ensures.text))
     c.loop-vertex.invariant c.in_err-push.ensures.fed
 
 pub returns : goal.returns
 returns g c =
-    fed-all g.K.Sink _ _ _ _ _ _ (ap (value_lines c.loop-vertex.vertex) (drop_all c.loop-vertex.vertex c.args.values.now (omega arith))) c.loop-vertex.invariant
+    fed-all _ _ _ _ _ _ (ap (value_lines c.loop-vertex.vertex) (drop_all c.loop-vertex.vertex c.args.values.now (omega arith))) c.loop-vertex.invariant

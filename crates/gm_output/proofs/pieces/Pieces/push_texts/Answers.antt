@@ -16,13 +16,13 @@ texts-next texts i text h =
 
 pub loop-text-preserved : goal.loop-text-preserved
 loop-text-preserved g c =
-    fed-more g.K.Sink _ _ _ _ _ _ _ _ _ _ _ (texts-next c.args.texts.now c.loop-text.text-index _ (omega arith)) c.loop-text.invariant c.in_ok-push_all.ensures.fed
+    fed-more _ _ _ _ _ _ _ _ _ _ _ (texts-next c.args.texts.now c.loop-text.text-index _ (omega arith)) c.loop-text.invariant c.in_ok-push_all.ensures.fed
 
 pub returns-in_err-push_all : goal.returns-in_err-push_all
 returns-in_err-push_all g c =
     let p = err_from_is_err_and c.from_residual.result c.from_residual.ensures.1 in
-    fed-refused g.K.Sink _ _ _ _ _ _ _ _ _ _ _ (Err _) _ refl (ap result_err (p.1 ∙ ap Err p.2))
+    fed-refused _ _ _ _ _ _ _ _ _ _ _ (Err _) _ refl (ap result_err (p.1 ∙ ap Err p.2))
     (texts-next c.args.texts.now c.loop-text.text-index _ (omega arith)) c.loop-text.invariant c.in_err-push_all.ensures.fed
 
 pub returns : goal.returns
-returns g c = fed-all g.K.Sink _ _ _ _ _ _ (ap texts_of (drop_all c.loop-text.text-index c.args.texts.now (omega arith))) c.loop-text.invariant
+returns g c = fed-all _ _ _ _ _ _ (ap texts_of (drop_all c.loop-text.text-index c.args.texts.now (omega arith))) c.loop-text.invariant
