@@ -76,12 +76,15 @@ pub(crate) fn read_chunk<D: Depot>(
     edges: &mut Vec<Edge>,
 ) -> Result<Option<Edge>, Trouble>
     requires { chunk < length cat.now.places }
-    ensures frame { OnlyReads 0 (chunk_reads (place_at cat.now chunk)) (D.state depot.old) (D.state depot.new) }
-    ensures reads { IfOk result (λ stray. ReadsChunk (D.state depot.old).files name.now cat.now chunk edges.new.items stray) }
+    ensures frame { OnlyReads 0 (chunk_reads (place_at cat.now chunk))
+        (D.state depot.old) (D.state depot.new) }
+    ensures reads { IfOk result (λ stray.
+        ReadsChunk (D.state depot.old).files name.now cat.now chunk edges.new.items stray) }
     ensures told { (bytes : List ℕ) → TellsGrid (D.state depot.old).files name.now cat.now bytes
         → IfOk result (λ stray. IsUnchanged bytes cat.now chunk edges.new.items stray) }
     ensures cause { CountsFaults (D.state depot.old) (D.state depot.new) result }
-    ensures calm { (bytes : List ℕ) → IsTrue (D.state depot.old).calm → TellsGrid (D.state depot.old).files name.now cat.now bytes
+    ensures calm { (bytes : List ℕ) → IsTrue (D.state depot.old).calm
+        → TellsGrid (D.state depot.old).files name.now cat.now bytes
         → IsErrOf result Trouble.Failed → ⊥ }
     ensures calm_range { IsTrue (D.state depot.old).calm
         → IfSome (D.state depot.old).files (λ held. HoldsChunk held name.now cat.now chunk
@@ -160,7 +163,8 @@ fn check_label(
     requires few { length edges.now ≤ MAX_EDGES }
     requires placed { All (LiesInChunk cat.now chunk) edges.now }
     ensures ok { OnOk result (label_of edges.now ≡ label_at cat.now chunk) }
-    ensures changed { (found : Found) → IsErrOf result (FetchError.Changed found) → Differs cat.now chunk edges.now found }
+    ensures changed { (found : Found) → IsErrOf result (FetchError.Changed found)
+        → Differs cat.now chunk edges.now found }
     ensures no_fault { IsErrOf result FetchError.Fault → ⊥ }
 {
     if has_label(cat, chunk, edges, counts)? {
@@ -170,10 +174,10 @@ fn check_label(
     Err(FetchError::Changed { found })
 }
 
-/// Fetches chunks one after the other, each in the room of the one before.
+/// Opens a grid and fetches its chunks, one after the other, each in the room of the one before.
 #[derive(Drop)]
 pub struct Fetcher {
-    alloc: Global,
+    pub(crate) alloc: Global,
     pub(crate) buffer: Vec<u8>,
     pub(crate) edges: Vec<Edge>,
     pub(crate) counts: SourceCounts,

@@ -12,8 +12,8 @@ use crate::OpenError;
 use crate::fetching::{Fetcher, count_sources, read_chunk};
 use crate::reading::widen;
 use gm_base::{Edge, Memory};
-use gm_grid::laws::grid_by_parts;
 use gm_grid::GridError;
+use gm_grid::laws::grid_by_parts;
 use gm_label::{Catalogue, SourceCounts};
 use gm_outside::Depot;
 
@@ -51,13 +51,16 @@ impl Fetcher {
         requires fresh { label_at cat.old chunk ≡ [] }
         ensures cut { IsSameCut cat.old cat.new }
         ensures set { OnOk result (IsSetAt chunk cat.old cat.new) }
-        ensures labelled { (size : ℕ) → IsTold (D.state depot.old).files name.now (HasLabelled size chunk cat.old)
+        ensures labelled { (size : ℕ)
+            → IsTold (D.state depot.old).files name.now (HasLabelled size chunk cat.old)
             → OnOk result (IsTold (D.state depot.old).files name.now (HasLabelled size (chunk + 1) cat.new)) }
-        ensures opens { (size : ℕ) → IsTold (D.state depot.old).files name.now (HasLabelled size chunk cat.old)
+        ensures opens { (size : ℕ)
+            → IsTold (D.state depot.old).files name.now (HasLabelled size chunk cat.old)
             → OpensBy 0 (chunk_reads (place_at cat.old chunk)) size name.now
             (D.state depot.old) (D.state depot.new) result }
         ensures served { OnOk result ((D.state depot.new).faults ≡ (D.state depot.old).faults) }
-        ensures frame { OnlyReads 0 (chunk_reads (place_at cat.old chunk)) (D.state depot.old) (D.state depot.new) }
+        ensures frame { OnlyReads 0 (chunk_reads (place_at cat.old chunk))
+            (D.state depot.old) (D.state depot.new) }
         ensures read { OnOk result
             (ReadsJust (chunk_reads (place_at cat.old chunk)) (D.state depot.old) (D.state depot.new)) }
     {
