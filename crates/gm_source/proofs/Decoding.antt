@@ -11,8 +11,7 @@ use Rattle.std.proofs.lemmas.Option.{slice_get-get_or}
 use Rattle.gm_base.specs.declared.edge.Edge.{Edge}
 use Rattle.gm_base.specs.Dimensions.{Dimensions, block_of}
 use Rattle.gm_base.specs.Graph.{HasEndsBelow}
-use Rattle.gm_grid.specs.declared.placement.BlockRanges.{BlockRanges}
-use Rattle.gm_grid.specs.Format.{is_in_block, is_within, AreRangesOf}
+use Rattle.gm_grid.specs.Format.{is_in_block}
 use Rattle.gm_source.specs.Openings.{Decodes}
 
 abbrev pub no_edge : Edge

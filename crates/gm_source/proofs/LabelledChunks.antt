@@ -33,7 +33,7 @@ use Rattle.gm_label.specs.ChunksRules.{chunks-within, chunks-count_edges, length
 use Rattle.gm_label.specs.Labels.{label_of}
 use Rattle.gm_label.specs.Catalogues.{Catalogue, no_place, place_at, label_at, catalogue_of, unlabelled, with_label}
 use Rattle.gm_label.specs.CataloguesRules.{labelled_up_to-none, labelled_up_to-next, labelled_up_to-all}
-use Rattle.gm_source.specs.Openings.{AreBytes, HasIndex, HasLabelled, IsCatalogueOf, IsTold, IsSameCut, IsSetAt, IsFreshFrom, IsPlanned, OpensBy, Decodes, placed_of, edges_before, chunk_reads, reads_before}
+use Rattle.gm_source.specs.Openings.{AreBytes, HasIndex, HasLabelled, IsCatalogueOf, IsTold, IsSameCut, IsSetAt, IsFreshFrom, IsPlanned, OpensBy, placed_of, edges_before, chunk_reads, reads_before}
 use Rattle.gm_source.specs.declared.errors.OpenError.{OpenError}
 use Rattle.gm_source.specs.OpeningsRules.{opens_by-then, opens_by-more, opens_by-served}
 use Rattle.gm_source.specs.Fetches.{WasRead, ReadsChunk, chunk_start, is_in_chunk}
