@@ -65,10 +65,12 @@ pub fn build<D: Depot>(
 ) -> Result<(), Trouble>
     requires ends { IsGraph shape.now.n edges.now }
     requires few { length edges.now ≤ MAX_EDGES }
-    ensures ok { OnOk result (HoldsGrid (D.state depot.old) (D.state depot.new) name.now shape.now edges.now) }
+    ensures ok { OnOk result
+        (HoldsGrid (D.state depot.old) (D.state depot.new) name.now shape.now edges.now) }
     ensures grid { OnOk result (IsBuiltGrid shape.now edges.now) }
     ensures graph { OnOk result (KeepsGraph shape.now edges.now) }
-    ensures err { OnErr result (HoldsPart (D.state depot.old) (D.state depot.new) name.now shape.now edges.now) }
+    ensures err { OnErr result
+        (HoldsPart (D.state depot.old) (D.state depot.new) name.now shape.now edges.now) }
     ensures cause { CountsFaults (D.state depot.old) (D.state depot.new) result }
     ensures write_cause { CountsWriteFaults (D.state depot.old) (D.state depot.new) result }
     ensures calm { IsTrue (D.state depot.old).calm → IsErrOf result Trouble.Failed → ⊥ }

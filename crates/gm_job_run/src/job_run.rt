@@ -264,7 +264,8 @@ pub(crate) fn run_job<D: Depot>(
         (D.state depot.old) (D.state depot.new)) }
     ensures few { (bytes : List ℕ)
         → TellsGrid (D.state depot.old).files view.now.name.now (arc_value cat) bytes
-        → ReadsUpTo (run_weight (shown_view view.now spec (arc_value cat) bytes) (pass_reads (arc_value cat)))
+        → ReadsUpTo
+        (run_weight (shown_view view.now spec (arc_value cat) bytes) (pass_reads (arc_value cat)))
         (D.state depot.old) (D.state depot.new) }
     ensures faults { CountsOutcomes (D.state depot.old) (D.state depot.new) (λ outcome. outcome) result }
     ensures frame { ReadsSome (D.state depot.old) (D.state depot.new) }

@@ -58,7 +58,8 @@ fn run_line<D: Depot>(
         JobEnds (view_below (arc_value cat) bytes versions.now job) (pass_reads (arc_value cat))
         (D.state depot.old) (D.state depot.new) line.outcome) }
     ensures few { (bytes : List ℕ) → TellsGrid (D.state depot.old).files grid.now (arc_value cat) bytes
-        → ReadsUpTo (run_weight (view_below (arc_value cat) bytes versions.now job) (pass_reads (arc_value cat)))
+        → ReadsUpTo
+        (run_weight (view_below (arc_value cat) bytes versions.now job) (pass_reads (arc_value cat)))
         (D.state depot.old) (D.state depot.new) }
     ensures faults { CountsOutcomes (D.state depot.old) (D.state depot.new) (λ line. line.outcome) result }
     ensures frame { ReadsSome (D.state depot.old) (D.state depot.new) }
@@ -93,7 +94,8 @@ pub fn run_script<D: Depot>(
         AreLinesOfJobs (λ job outcome. IsTold outcome) (jobs_of script) lines.items) }
     ensures ends { (bytes : List ℕ)
         → TellsGrid (D.state depot.old).files grid.now (arc_value cat.now) bytes
-        → IfOk result (λ lines. RunOver (arc_value cat.now) (edges_in bytes) (D.state depot.old) (D.state depot.new)
+        → IfOk result (λ lines.
+        RunOver (arc_value cat.now) (edges_in bytes) (D.state depot.old) (D.state depot.new)
         (jobs_of script) lines.items) }
     ensures few { (bytes : List ℕ)
         → TellsGrid (D.state depot.old).files grid.now (arc_value cat.now) bytes

@@ -11,8 +11,7 @@ use Rattle.std.proofs.lemmas.Option.{slice_get-get_or}
 use Rattle.gm_base.specs.declared.edge.Edge.{Edge}
 use Rattle.gm_base.specs.Dimensions.{Dimensions, block_of}
 use Rattle.gm_base.specs.Graph.{HasEndsBelow}
-use Rattle.gm_grid.specs.declared.placement.BlockRanges.{BlockRanges}
-use Rattle.gm_grid.specs.Format.{is_in_block, is_within, AreRangesOf}
+use Rattle.gm_grid.specs.Format.{is_in_block}
 use Rattle.gm_source.specs.Openings.{Decodes}
 
 abbrev pub no_edge : Edge
@@ -86,11 +85,6 @@ all_in is_in edges none =
     All-weaker (λ e. not (is_in e) ≡ false) (λ e. is_in e ≡ true) (λ e. not_false (is_in e)) edges
     (All-from_recursion (λ e. not (is_in e) ≡ false) edges (none_from (λ e. not (is_in e)) 0 edges (sym (position_from-zero (λ e. not (is_in e)) edges) ∙ none)))
 
--- the ranges of a block make the test of the block
-pub by_block : (d : Dimensions) (block : ℕ) (ranges : BlockRanges) (edges : List Edge) (found : Option ℕ) → AreRangesOf d block ranges
-    → position (λ e. not (is_within ranges e)) edges ≡ found → position (λ e. not (is_in_block d block e)) edges ≡ found
-by_block d block ranges edges found are is = (λ i. position (λ e. not (sym (are e) i)) edges) ∙ is
-
 -- an edge of a block has its ends below n, and lies in the block
 pub in_block-means : (d : Dimensions) (block : ℕ) (e : Edge) → is_in_block d block e ≡ true → HasEndsBelow d.n e × (block_of d e ≡ block)
 in_block-means d block e is =
@@ -103,6 +97,10 @@ in_block-means d block e is =
     and_split true false is = absurd cc
     and_split false true is = absurd cc
     and_split false false is = absurd cc
+
+pub none_of_test : (stray : Option Edge) → is_some stray ≡ false → stray ≡ None
+none_of_test None none = refl
+none_of_test (Some e) none = absurd cc
 
 -- by whether a stray edge was answered
 pub no_stray : (is_in : Edge → Bool) (read kept : List Edge) (stray : Option Edge) → is_some stray ≡ false → Decodes is_in read kept stray

@@ -13,13 +13,13 @@ use Rattle.gm_grid.specs.GridBytes.{edges_of_bytes, edges_in, index_end, shape_i
 use Rattle.gm_grid.specs.GridBytesRules.{edges_in-part, length-edges_of_bytes}
 use Rattle.gm_label.specs.Labels.{label_of}
 use Rattle.gm_label.specs.Catalogues.{Catalogue, place_at, base_at}
-use Rattle.gm_source.specs.Openings.{Decodes}
+use Rattle.gm_source.specs.Openings.{AreBytes, Decodes}
 use Rattle.gm_source.specs.declared.fetching.Found.{Found}
 use Rattle.gm_source.specs.declared.fetching.Found.TheVariants.{Stray, Labels}
 use Rattle.gm_source.specs.declared.fetching.FetchError.TheVariants.{Fault}
 use Rattle.gm_outside.specs.declared.traits.Trouble.{Trouble}
 use Rattle.gm_outside.specs.declared.traits.Trouble.TheVariants as troubles
-use Rattle.gm_source.specs.Fetches.{fetch_error_of, Differs, TellsGrid, WasRead, ReadsChunk, LiesInChunk, IsUnchanged, is_in_chunk, chunk_start}
+use Rattle.gm_source.specs.Fetches.{HoldsChunk, fetch_error_of, Differs, TellsGrid, WasRead, ReadsChunk, LiesInChunk, IsUnchanged, is_in_chunk, chunk_start}
 use Rattle.gm_source.proofs.ToldChunks.{IsChunkIn, chunk_in, none_fails}
 use Rattle.gm_source.proofs.Decoding.{all_in, in_block-means}
 
@@ -126,13 +126,18 @@ told_chunk told name bytes cat c shape edges size tells within =
     (record { shape = shape bytes k.n k.parts k.blocks k.grid; edges = edges bytes k.n k.parts k.blocks k.grid; size = size bytes k.n k.parts k.blocks k.grid }) within
 
 -- a file's own range is there, so that reading it doesn't fail
-pub none_fails_in_range : (told : Option Files) (name bytes : List ℕ) (cat : Catalogue) (c pos count : ℕ) (Fails : Type 0) → TellsGrid told name cat bytes
-    → IsChunkIn bytes c cat → pos ≡ chunk_start cat c → count ≡ 12 * (place_at cat c).count
-    → IfSome told (λ held. HasRange held name pos count → Fails → ⊥) → Fails → ⊥
-none_fails_in_range told name bytes cat c pos count Fails tells is at many never =
-    subst (λ (told : Option Files). IfSome told (λ held. HasRange held name pos count → Fails → ⊥)) tells.is_told never
-    (subst (λ (p : ℕ). HasRange tells.files name p count) (sym at)
-    (subst (λ (k : ℕ). HasRange tells.files name (chunk_start cat c) k) (sym many) (in_range told tells.files name bytes cat c tells is tells.is_told)))
+pub none_fails_in_range : (told : Option Files) (name bytes : List ℕ) (cat : Catalogue) (c : ℕ) (Fails : Type 0) → TellsGrid told name cat bytes
+    → IsChunkIn bytes c cat → IfSome told (λ held. HoldsChunk held name cat c → Fails → ⊥) → Fails → ⊥
+none_fails_in_range told name bytes cat c Fails tells is never =
+    subst (λ (told : Option Files). IfSome told (λ held. HoldsChunk held name cat c → Fails → ⊥)) tells.is_told never
+    (in_range told tells.files name bytes cat c tells is tells.is_told)
+
+-- a range by its place and length
+pub in_chunk_range : (told : Option Files) (name : List ℕ) (pos start room many : ℕ) (Fails : Type 0) → pos ≡ start → room ≡ many
+    → IfSome told (λ held. HasRange held name pos room → Fails → ⊥) → IfSome told (λ held. HasRange held name start many → Fails → ⊥)
+in_chunk_range told name pos start room many Fails at wide never =
+    subst (λ (p : ℕ). IfSome told (λ held. HasRange held name p many → Fails → ⊥)) at
+    (subst (λ (k : ℕ). IfSome told (λ held. HasRange held name pos k → Fails → ⊥)) wide never)
 
 bytes_at : (told : Option Files) (name bytes : List ℕ) (pos start : ℕ) (Read : Type 0) → Read → pos ≡ start
     → IfSome told (λ held. Read → HasBytesAt held name pos bytes) → IfSome told (λ held. HasBytesAt held name start bytes)
@@ -142,19 +147,20 @@ bytes_at (Some held) name bytes pos start Read read same at = subst (λ (p : ℕ
 -- a buffer as long as the chunk, filled from the chunk's place on and decoded by its block's ranges
 pub reads_chunk : {E : Type 0} (told : Option Files) (name : List ℕ) (cat : Catalogue) (c : ℕ) (ranges : BlockRanges) (pos room : ℕ) (bytes : List ℕ)
     (kept : List Edge) (result : Result (Option Edge) E) → AreRangesOf cat.dimensions (place_at cat c).block ranges → pos ≡ chunk_start cat c
-    → room ≡ 12 * (place_at cat c).count → length bytes ≡ room → IfOk result (λ stray. Decodes (is_within ranges) (edges_of_bytes bytes) kept stray)
+    → room ≡ 12 * (place_at cat c).count → length bytes ≡ room → AreBytes bytes → IfOk result (λ stray. Decodes (is_within ranges) (edges_of_bytes bytes) kept stray)
     → IfSome told (λ held. 0 < room → OnOk result (HasBytesAt held name pos bytes)) → IfOk result (λ stray. ReadsChunk told name cat c kept stray)
-reads_chunk told name cat c ranges pos room bytes kept (Ok stray) are at wide long decoded filled = record {
+reads_chunk told name cat c ranges pos room bytes kept (Ok stray) are at wide long small decoded filled = record {
   read = edges_of_bytes bytes;
   from = record {
     bytes = bytes;
     is = refl;
     long = long ∙ wide;
+    small = small;
     place = λ some. bytes_at told name bytes pos (chunk_start cat c) (0 < room) (omega arith) at filled;
   };
   decoded = in_chunk cat c ranges (edges_of_bytes bytes) kept stray are decoded;
 }
-reads_chunk told name cat c ranges pos room bytes kept (Err e) are at wide long decoded filled = tt
+reads_chunk told name cat c ranges pos room bytes kept (Err e) are at wide long small decoded filled = tt
 
 pub unchanged_ok : {E : Type 0} (told : Option Files) (name bytes : List ℕ) (cat : Catalogue) (c : ℕ) (kept : List Edge) (result : Result (Option Edge) E)
     → TellsGrid told name cat bytes → IsChunkIn bytes c cat → IfOk result (λ stray. ReadsChunk told name cat c kept stray)

@@ -1,6 +1,6 @@
 -- Chunks that are read and labelled one after the other.
 use Rattle.std.proofs.Common.{◌≡◌, ℕ, zero, suc, Result, ◌+◌, ◌*◌, ◌<◌, ◌≤◌, not, List, [], ◌∷◌, ◌++◌, length, map, take, drop, get_or, Option, Some, None, refl, sym, ap, subst, append-nil, ◌∙◌, arith}
-use Rattle.std.specs.Prelude.{flat_map, sum, sum_by, nat_lt, Bool, true, false, if◌then◌else◌}
+use Rattle.std.specs.Prelude.{IfSome, is_some, flat_map, sum, sum_by, nat_lt, Bool, true, false, if◌then◌else◌}
 use Rattle.std.specs.List.{position}
 use Rattle.std.specs.Option.{option_or, option_map}
 use Rattle.std.proofs.Math.Seq.{take-add}
@@ -11,7 +11,7 @@ use Rattle.std.proofs.lemmas.List.Concat.{flat_map-append}
 use Rattle.gm_outside.specs.States.{DepotState}
 use Rattle.gm_outside.specs.Causes.{counted_times}
 use Rattle.gm_outside.specs.CausesRules.{counted_times-add}
-use Rattle.gm_outside.specs.Files.{Files}
+use Rattle.gm_outside.specs.Files.{Files, HasBytesAt}
 use Rattle.gm_outside.specs.Frames.{OnlyReads}
 use Rattle.gm_outside.specs.FramesRules.{only_reads-none, only_reads-then}
 use Rattle.gm_base.specs.declared.edge.Edge.{Edge}
@@ -22,11 +22,10 @@ use Rattle.gm_grid.specs.declared.grid_error.GridError.{GridError}
 use Rattle.gm_grid.specs.declared.grid_error.GridError.TheVariants.{BadEdge, TooManyChunks}
 use Rattle.std.proofs.lemmas.Bool.{ltb-false}
 use Rattle.std.proofs.Common.{ltb}
-use Rattle.gm_grid.specs.declared.placement.BlockRanges.{BlockRanges}
-use Rattle.gm_grid.specs.Format.{IsGrid, edges_of_grid, is_in_block, is_within, AreRangesOf}
+use Rattle.gm_grid.specs.Format.{IsGrid, edges_of_grid, is_in_block}
 use Rattle.gm_grid.specs.GridBytes.{blocks_of, blocks_in, placed_edges, index_end, shape_in, counts_in, edges_in, edges_of_bytes}
 use Rattle.gm_grid.specs.GridBytesRules.{edges_in-part}
-use Rattle.gm_grid.specs.GridRefusals.{grid_refusal, refusal_by_chunks, is_misplaced}
+use Rattle.gm_grid.specs.GridRefusals.{grid_refusal, refusal_by_head, refusal_by_index, refusal_by_chunks, is_misplaced}
 use Rattle.gm_grid.specs.GridRefusalsRules.{refused_by_edges, refusal_by_edges-position, position-append, position-in_block}
 use Rattle.gm_label.specs.declared.chunk.Place.{Place}
 use Rattle.gm_label.specs.Chunks.{chunks_of, base_of}
@@ -34,11 +33,12 @@ use Rattle.gm_label.specs.ChunksRules.{chunks-within, chunks-count_edges, length
 use Rattle.gm_label.specs.Labels.{label_of}
 use Rattle.gm_label.specs.Catalogues.{Catalogue, no_place, place_at, label_at, catalogue_of, unlabelled, with_label}
 use Rattle.gm_label.specs.CataloguesRules.{labelled_up_to-none, labelled_up_to-next, labelled_up_to-all}
-use Rattle.gm_source.specs.Openings.{AreBytes, HasIndex, HasLabelled, IsCatalogueOf, IsTold, IsBlock, IsSameCut, IsSetAt, IsFreshFrom, IsPlanned, OpensBy, Decodes, placed_of, edges_before, chunk_reads, reads_before}
+use Rattle.gm_source.specs.Openings.{AreBytes, HasIndex, HasLabelled, IsCatalogueOf, IsTold, IsSameCut, IsSetAt, IsFreshFrom, IsPlanned, OpensBy, placed_of, edges_before, chunk_reads, reads_before}
 use Rattle.gm_source.specs.declared.errors.OpenError.{OpenError}
-use Rattle.gm_source.specs.declared.labelling.Block.{Block}
 use Rattle.gm_source.specs.OpeningsRules.{opens_by-then, opens_by-more, opens_by-served}
-use Rattle.gm_source.proofs.Decoding.{by_block}
+use Rattle.gm_source.specs.Fetches.{WasRead, ReadsChunk, chunk_start, is_in_chunk}
+use Rattle.gm_source.proofs.Told.{told-weaker, told-both, told-piece}
+use Rattle.gm_source.proofs.Decoding.{no_stray, a_stray}
 use Rattle.gm_source.proofs.Chunking.{first_of_chunk, placed_by_chunks, length_of_placed, short_chunk}
 
 abbrev no_pairs : List (ℕ × ℕ)
@@ -125,6 +125,10 @@ labelled-next size k bytes cat next within is inside small so_far =
 abbrev pub HasSizes : List ℕ → Type 0
 HasSizes bytes = (sum (counts_in bytes) ≡ length (edges_in bytes)) × (length bytes ≡ index_end (shape_in bytes) + 12 * length (edges_in bytes))
 
+-- .. as a law of grids
+abbrev pub AllHaveSizes : Type 0
+AllHaveSizes = (bytes : List ℕ) → refusal_by_head (length bytes) (take 16 bytes) ≡ None → refusal_by_index (length bytes) (counts_in bytes) ≡ None → HasSizes bytes
+
 some_behind : (first second third : Option ℕ) (k l p : ℕ) → first ≡ None → second ≡ Some p
     → option_or first (option_map (λ (i : ℕ). k + i) (option_or second (option_map (λ (i : ℕ). l + i) third))) ≡ Some (k + p)
 some_behind first second third k l p a b =
@@ -209,15 +213,14 @@ record IsRead (size k : ℕ) (cat : Catalogue) (piece bytes : List ℕ) : Type 0
 abbrev pub Stands : ℕ → List ℕ → List ℕ → Type 0
 Stands pos piece bytes = piece ≡ take (length piece) (drop pos bytes)
 
-is_read : (size k edges_at : ℕ) (cat : Catalogue) (piece bytes : List ℕ) → edges_at ≡ index_end cat.dimensions → k < length cat.places
-    → length piece ≡ 12 * (place_at cat k).count → HasLabelled size k cat bytes × Stands (edges_at + 12 * (place_at cat k).first) piece bytes
-    → IsRead size k cat piece bytes
-is_read size k edges_at cat piece bytes at within long told =
+is_read : (size k : ℕ) (cat : Catalogue) (piece bytes : List ℕ) → k < length cat.places → length piece ≡ 12 * (place_at cat k).count
+    → HasLabelled size k cat bytes × Stands (chunk_start cat k) piece bytes → IsRead size k cat piece bytes
+is_read size k cat piece bytes within long told =
     let shape : cat.dimensions ≡ shape_in bytes = ap (λ (c : Catalogue). c.dimensions) told.0.labels in
     let places : cat.places ≡ chunks_in size bytes = ap (λ (c : Catalogue). c.places) told.0.labels in
     let place : place_at cat k ≡ chunk_in size bytes k = ap (λ (ps : List Place). get_or ps k no_place) places in
     let piece_is : piece ≡ take (12 * (chunk_in size bytes k).count) (drop (index_end (shape_in bytes) + 12 * (chunk_in size bytes k).first) bytes) =
-    told.1 ∙ (λ i. take ((long ∙ ap (λ (p : Place). 12 * p.count) place) i) (drop ((at ∙ ap index_end shape) i + 12 * (place i).first) bytes)) in
+    told.1 ∙ (λ i. take ((long ∙ ap (λ (p : Place). 12 * p.count) place) i) (drop (index_end (shape i) + 12 * (place i).first) bytes)) in
     record {
       shape_is = shape;
       place_is = place;
@@ -226,74 +229,78 @@ is_read size k edges_at cat piece bytes at within long told =
       piece_is = piece_is;
     }
 
-search_in : (size k : ℕ) (cat : Catalogue) (piece bytes : List ℕ) (ranges : BlockRanges) (found : Option ℕ) → AreRangesOf cat.dimensions (place_at cat k).block ranges
-    → position (λ e. not (is_within ranges e)) (edges_of_bytes piece) ≡ found → IsRead size k cat piece bytes
+search_in : (size k : ℕ) (cat : Catalogue) (piece bytes : List ℕ) (read : List Edge) (found : Option ℕ) → read ≡ edges_of_bytes piece
+    → position (λ e. not (is_in_chunk cat k e)) read ≡ found → IsRead size k cat piece bytes
     → position (λ e. not (is_in_block (shape_in bytes) (chunk_in size bytes k).block e)) (base_of (edges_in bytes) (chunk_in size bytes k)) ≡ found
-search_in size k cat piece bytes ranges found are is read =
-    (λ i. position (λ e. not (is_in_block (sym read.shape_is i) (sym read.place_is i).block e)) (sym read.edges_are i))
-    ∙ by_block cat.dimensions (place_at cat k).block ranges (edges_of_bytes piece) found are is
+search_in size k cat piece bytes read found same is all =
+    (λ i. position (λ e. not (is_in_block (sym all.shape_is i) (sym all.place_is i).block e)) (sym (same ∙ all.edges_are) i)) ∙ is
+
+inside : (told : Option Files) (n : ℕ) (P : Files → Type 0) → (0 < n → IfSome told P) → IfSome told (λ held. 0 < n → P held)
+inside None n P some = tt
+inside (Some held) n P some = some
+
+-- where the file has labels up to a chunk, what was read for the chunk stands at its place
+stands : (told : Option Files) (name : List ℕ) (size k : ℕ) (cat : Catalogue) (read : List Edge) (was : WasRead told name cat k read)
+    → IsTold told name (HasLabelled size k cat) → IsTold told name (λ bytes. HasLabelled size k cat bytes × Stands (chunk_start cat k) was.bytes bytes)
+stands told name size k cat read was labelled =
+    told-both told name _ _ labelled (told-piece told name _ (12 * (place_at cat k).count) _ _ was.bytes was.long refl labelled
+    (inside told (12 * (place_at cat k).count) (λ held. HasBytesAt held name (chunk_start cat k) was.bytes) (λ some. was.place (omega arith))))
 
 -- a chunk that was read and lies in its block is labelled
-pub chunk-labelled : (size k edges_at : ℕ) (cat next : Catalogue) (piece bytes : List ℕ) (kept : List Edge) (ranges : BlockRanges)
-    → edges_at ≡ index_end cat.dimensions → k < length cat.places → length piece ≡ 12 * (place_at cat k).count → AreBytes piece
-    → AreRangesOf cat.dimensions (place_at cat k).block ranges → Decodes (is_within ranges) (edges_of_bytes piece) kept None
-    → next ≡ with_label cat k (label_of kept)
-    → HasLabelled size k cat bytes × Stands (edges_at + 12 * (place_at cat k).first) piece bytes → HasLabelled size (k + 1) next bytes
-chunk-labelled size k edges_at cat next piece bytes kept ranges at within long small are decoded is told =
-    let read = is_read size k edges_at cat piece bytes at within long told in
+pub chunk-labelled : (told : Option Files) (name : List ℕ) (size k : ℕ) (cat next : Catalogue) (kept : List Edge) (stray : Option Edge)
+    → k < length cat.places → ReadsChunk told name cat k kept stray → is_some stray ≡ false → next ≡ with_label cat k (label_of kept)
+    → IsTold told name (HasLabelled size k cat) → IsTold told name (HasLabelled size (k + 1) next)
+chunk-labelled told name size k cat next kept stray within reads none is labelled =
+    let decoded = no_stray (is_in_chunk cat k) reads.read kept stray none reads.decoded in
+    let was = reads.from in
+    told-weaker told name _ _
+    (λ bytes both. let read = is_read size k cat was.bytes bytes within was.long both in
     labelled-next size k bytes cat next read.within
-    (is ∙ ap (λ (edges : List Edge). with_label cat k (label_of edges)) (decoded.0 ∙ read.edges_are))
-    (search_in size k cat piece bytes ranges None are decoded.1 read)
-    (subst AreBytes read.piece_is small) told.0
+    (is ∙ ap (λ (edges : List Edge). with_label cat k (label_of edges)) (decoded.0 ∙ was.is ∙ read.edges_are))
+    (search_in size k cat was.bytes bytes reads.read None was.is decoded.1 read)
+    (subst AreBytes read.piece_is was.small) both.0)
+    (stands told name size k cat reads.read was labelled)
 
 -- and one with a stray edge is refused for it
-pub chunk-refused : (size k edges_at : ℕ) (cat : Catalogue) (piece bytes : List ℕ) (p : ℕ) (ranges : BlockRanges)
-    → edges_at ≡ index_end cat.dimensions → k < length cat.places → length piece ≡ 12 * (place_at cat k).count
-    → AreRangesOf cat.dimensions (place_at cat k).block ranges → position (λ e. not (is_within ranges e)) (edges_of_bytes piece) ≡ Some p
-    → HasSizes bytes
-    → HasLabelled size k cat bytes × Stands (edges_at + 12 * (place_at cat k).first) piece bytes
-    → grid_refusal size bytes ≡ Some (BadEdge ((place_at cat k).first + p))
-chunk-refused size k edges_at cat piece bytes p ranges at within long are stray sizes told =
-    let read = is_read size k edges_at cat piece bytes at within long told in
-    stray-refused size k p bytes cat sizes read.within (search_in size k cat piece bytes ranges (Some p) are stray read) told.0
-    ∙ ap (λ (place : Place). Some (BadEdge (place.first + p))) (sym read.place_is)
+pub chunk-refused : (told : Option Files) (name : List ℕ) (size k index : ℕ) (cat : Catalogue) (kept : List Edge) (stray : Option Edge)
+    → k < length cat.places → ReadsChunk told name cat k kept stray → is_some stray ≡ true → index ≡ (place_at cat k).first + length kept → AllHaveSizes
+    → IsTold told name (HasLabelled size k cat) → IsTold told name (λ bytes. grid_refusal size bytes ≡ Some (BadEdge index))
+chunk-refused told name size k index cat kept stray within reads some is sizes labelled =
+    let found = a_stray (is_in_chunk cat k) reads.read kept stray some reads.decoded in
+    let was = reads.from in
+    told-weaker told name _ _
+    (λ bytes both. let read = is_read size k cat was.bytes bytes within was.long both in
+    stray-refused size k (length kept) bytes cat (sizes bytes both.0.index.head.taken both.0.index.taken) read.within
+    (search_in size k cat was.bytes bytes reads.read (Some (length kept)) was.is found read) both.0
+    ∙ (λ i. Some (BadEdge ((sym read.place_is i).first + length kept))) ∙ ap (λ (n : ℕ). Some (BadEdge n)) (sym is))
+    (stands told name size k cat reads.read was labelled)
 
 -- a chunk lies in the file
-pub chunk-in_range : (size k edges_at : ℕ) (cat : Catalogue) (bytes : List ℕ) → edges_at ≡ index_end cat.dimensions → k < length cat.places
-    → HasSizes bytes → HasLabelled size k cat bytes
-    → edges_at + 12 * (place_at cat k).first + 12 * (place_at cat k).count ≤ length bytes
-chunk-in_range size k edges_at cat bytes at within sizes labelled =
+pub chunk-in_range : (told : Option Files) (name : List ℕ) (size k : ℕ) (cat : Catalogue) → k < length cat.places → AllHaveSizes
+    → IsTold told name (HasLabelled size k cat) → IsTold told name (λ bytes. chunk_start cat k + 12 * (place_at cat k).count ≤ length bytes)
+chunk-in_range told name size k cat within all_sizes =
+    told-weaker told name _ _ (λ bytes labelled.
+    let sizes = all_sizes bytes labelled.index.head.taken labelled.index.taken in
     let shape : cat.dimensions ≡ shape_in bytes = ap (λ (c : Catalogue). c.dimensions) labelled.labels in
     let places : cat.places ≡ chunks_in size bytes = ap (λ (c : Catalogue). c.places) labelled.labels in
-    let inside : (place_at cat k).first + (place_at cat k).count ≤ sum (counts_in bytes) =
+    let within_counts : (place_at cat k).first + (place_at cat k).count ≤ sum (counts_in bytes) =
     subst (λ (ps : List Place). k < length ps → (get_or ps k no_place).first + (get_or ps k no_place).count ≤ sum (counts_in bytes)) (sym places)
     (λ w. chunks-within size (counts_in bytes) k no_place w) within in
-    let end : edges_at ≡ index_end (shape_in bytes) = at ∙ ap index_end shape in
-    omega (arith, sizes.0, sizes.1)
+    let end : index_end cat.dimensions ≡ index_end (shape_in bytes) = ap index_end shape in
+    omega (arith, sizes.0, sizes.1))
 
 -- So many chunks were labelled by these calls.
-pub record Labels (old new : DepotState) (name : List ℕ) (room buffer : List ℕ) (cat now : Catalogue) (block : Block) (k : ℕ) : Type 0 where
-  pub is_block : IsBlock now.dimensions block
+pub record Labels (old new : DepotState) (name : List ℕ) (cat now : Catalogue) (k : ℕ) : Type 0 where
   pub cut : IsSameCut cat now
   pub fresh : IsFreshFrom k now
-  pub room_kept : length buffer ≡ length room
   pub frame : OnlyReads 0 (reads_before cat.places k) old new
   pub served : new.faults ≡ old.faults
   pub read : new.reads ≡ counted_times (reads_before cat.places k) old.reads
   pub labelled : (size : ℕ) → IsTold old.files name (HasLabelled size 0 cat) → IsTold old.files name (HasLabelled size k now)
 
-pub labels-none : (depot : DepotState) (name room : List ℕ) (cat : Catalogue) (block : Block) → IsFreshFrom 0 cat → IsBlock cat.dimensions block
-    → Labels depot depot name room room cat cat block 0
-labels-none depot name room cat block fresh is = record {
-  is_block = is;
-  cut = (refl, refl);
-  fresh = fresh;
-  room_kept = refl;
-  frame = only_reads-none depot;
-  served = refl;
-  read = refl;
-  labelled = λ size told. told;
-}
+pub labels-none : (depot : DepotState) (name : List ℕ) (cat : Catalogue) → IsFreshFrom 0 cat → Labels depot depot name cat cat 0
+labels-none depot name cat fresh =
+    record { cut = (refl, refl); fresh = fresh; frame = only_reads-none depot; served = refl; read = refl; labelled = λ size told. told }
 
 pub reads_before-next : (places : List Place) (k : ℕ) → k < length places
     → reads_before places (k + 1) ≡ reads_before places k + chunk_reads (get_or places k no_place)
@@ -305,22 +312,19 @@ fresh-next : (k : ℕ) (cat next : Catalogue) → IsSetAt k cat next → IsFresh
 fresh-next k cat next set fresh c behind = set c (λ same. absurd (omega (arith, ap (λ (n : ℕ). n) same))) ∙ fresh c (omega arith)
 
 -- one more was
-pub labels-next : (old mid new : DepotState) (name room buffer buffer_now : List ℕ) (cat now next : Catalogue) (block next_block : Block) (k : ℕ) → k < length cat.places
-    → Labels old mid name room buffer cat now block k → IsBlock now.dimensions next_block
-    → IsSameCut now next → IsSetAt k now next → length buffer_now ≡ length buffer
+pub labels-next : (old mid new : DepotState) (name : List ℕ) (cat now next : Catalogue) (k : ℕ) → k < length cat.places
+    → Labels old mid name cat now k → IsSameCut now next → IsSetAt k now next
     → OnlyReads 0 (chunk_reads (place_at now k)) mid new → new.faults ≡ mid.faults
     → new.reads ≡ counted_times (chunk_reads (place_at now k)) mid.reads
     → ((size : ℕ) → IsTold mid.files name (HasLabelled size k now) → IsTold mid.files name (HasLabelled size (k + 1) next))
-    → Labels old new name room buffer_now cat next next_block (k + 1)
-labels-next old mid new name room buffer buffer_now cat now next block next_block k within a is cut set long frame served read labelled =
+    → Labels old new name cat next (k + 1)
+labels-next old mid new name cat now next k within a cut set frame served read labelled =
     let place : place_at now k ≡ get_or cat.places k no_place = ap (λ (ps : List Place). get_or ps k no_place) a.cut.1 in
     let more : reads_before cat.places k + chunk_reads (place_at now k) ≡ reads_before cat.places (k + 1) =
     ap (λ (p : Place). reads_before cat.places k + chunk_reads p) place ∙ sym (reads_before-next cat.places k within) in
     record {
-      is_block = subst (λ (d : Dimensions). IsBlock d next_block) (sym cut.0) is;
       cut = (cut.0 ∙ a.cut.0, cut.1 ∙ a.cut.1);
       fresh = fresh-next k now next set a.fresh;
-      room_kept = long ∙ a.room_kept;
       frame = subst (λ (n : ℕ). OnlyReads 0 n old new) more
           (only_reads-then 0 (reads_before cat.places k) 0 (chunk_reads (place_at now k)) old mid new a.frame frame);
       served = served ∙ a.served;
@@ -335,11 +339,11 @@ labels-next old mid new name room buffer buffer_now cat now next block next_bloc
     }
 
 -- a chunk gave up behind others
-pub labels-refused : {X : Type 0} (old mid new : DepotState) (size : ℕ) (name room buffer : List ℕ) (cat now : Catalogue) (block : Block) (k : ℕ)
-    (result : Result X OpenError) → k < length cat.places → Labels old mid name room buffer cat now block k → IsTold old.files name (HasLabelled size 0 cat)
+pub labels-refused : {X : Type 0} (old mid new : DepotState) (size : ℕ) (name : List ℕ) (cat now : Catalogue) (k : ℕ)
+    (result : Result X OpenError) → k < length cat.places → Labels old mid name cat now k → IsTold old.files name (HasLabelled size 0 cat)
     → ((told : IsTold mid.files name (HasLabelled size k now)) → OpensBy 0 (chunk_reads (place_at now k)) size name mid new result)
     → OpensBy 0 (sum_by chunk_reads cat.places) size name old new result
-labels-refused old mid new size name room buffer cat now block k result within a told opens =
+labels-refused old mid new size name cat now k result within a told opens =
     let place : place_at now k ≡ get_or cat.places k no_place = ap (λ (ps : List Place). get_or ps k no_place) a.cut.1 in
     let more : reads_before cat.places k + chunk_reads (place_at now k) ≡ reads_before cat.places (k + 1) =
     ap (λ (p : Place). reads_before cat.places k + chunk_reads p) place ∙ sym (reads_before-next cat.places k within) in

@@ -14,16 +14,15 @@ use Rattle.gm_outside.specs.States.{DepotState}
 use Rattle.gm_grid.specs.declared.grid_error.GridError.TheVariants as grid_errors
 use Rattle.gm_grid.specs.declared.grid_error.IndexError.{IndexError}
 use Rattle.gm_grid.specs.declared.grid_error.IndexError.TheVariants as index_errors
-use Rattle.gm_grid.specs.Format.{IsGrid, AreRangesOf, dimensions_of, edges_of_grid}
+use Rattle.gm_grid.specs.Format.{IsGrid, dimensions_of, edges_of_grid}
 use Rattle.gm_grid.specs.GridBytes.{index_end, shape_in, counts_in, edges_in}
 use Rattle.gm_grid.specs.GridRefusals.{grid_refusal, refusal_by_head, refusal_by_index, refusal_by_chunks, is_misplaced}
 use Rattle.gm_label.specs.declared.chunk.Place.{Place}
 use Rattle.gm_label.specs.declared.plan.PlanError.{PlanError}
 use Rattle.gm_label.specs.declared.plan.PlanError.TheVariants as plan_errors
 use Rattle.gm_label.specs.Chunks.{chunks_of, base_of}
-use Rattle.gm_label.specs.Catalogues.{Catalogue, catalogue_of, labelled_up_to, label_at, place_at, first_source_of, end_source_of}
+use Rattle.gm_label.specs.Catalogues.{Catalogue, catalogue_of, labelled_up_to, label_at, place_at}
 use Rattle.gm_source.specs.declared.errors.OpenError.{OpenError}
-use Rattle.gm_source.specs.declared.labelling.Block.{Block}
 use Rattle.gm_source.specs.declared.errors.OpenError.TheVariants.{Missing, Grid, Fault, Memory}
 
 abbrev pub error_of_trouble : Trouble → OpenError
@@ -45,13 +44,8 @@ pub record IsCatalogueOf (bytes : List ℕ) (size : ℕ) (cat : Catalogue) : Typ
   pub blocks : List (List Edge)
   pub grid : IsGrid bytes n parts blocks
   pub few : refusal_by_chunks size (map (λ edges. length edges) blocks) ≡ None
-  pub all : cat ≡ catalogue_of (dimensions_of n parts) size (map (λ edges. length edges) blocks) (edges_of_grid blocks)
-
--- what is kept of a block while its chunks are labelled
-pub record IsBlock (d : Dimensions) (b : Block) : Type 0 where
-  pub ranges : AreRangesOf d b.number b.ranges
-  pub first : b.first_source ≡ first_source_of d b.number
-  pub end : b.end_source ≡ end_source_of d b.number
+  pub all : cat ≡ catalogue_of (dimensions_of n parts) size (map (λ edges. length edges) blocks)
+      (edges_of_grid blocks)
 
 -- where the files are told, the file of this name is there, and this holds of its bytes
 abbrev pub IsTold : Option Files → List ℕ → (List ℕ → Type 0) → Type 0
@@ -70,7 +64,8 @@ IsRefusedIn size found (Err error) = IsRefusedWith size found error
 
 -- A call that reads a file of this name by at most so many reads, and asks for its size so often, to open it with chunks of this size. It fails
 -- only where the depot did, never over a calm one, and refuses the file only for its first reason.
-pub record OpensBy {T : Type 0} (asked most size : ℕ) (name : List ℕ) (old new : DepotState) (result : Result T OpenError) : Type 0 where
+pub record OpensBy {T : Type 0} (asked most size : ℕ) (name : List ℕ) (old new : DepotState)
+    (result : Result T OpenError) : Type 0 where
   pub frame : OnlyReads asked most old new
   pub fault : HasExactCause Fault old.faults new.faults result
   pub calm : IsTrue old.calm → IsErrOf result Fault → ⊥
@@ -94,7 +89,8 @@ IsRefusedByIndex size counts index_errors.Memory = Unit {0}
 
 -- why chunks of this size weren't planned: there are too many, or there was no memory
 abbrev pub IsRefusedByChunks : ℕ → List ℕ → PlanError → Type 0
-IsRefusedByChunks size counts (plan_errors.TooManyChunks chunks) = refusal_by_chunks size counts ≡ Some (grid_errors.TooManyChunks chunks)
+IsRefusedByChunks size counts (plan_errors.TooManyChunks chunks) =
+    refusal_by_chunks size counts ≡ Some (grid_errors.TooManyChunks chunks)
 IsRefusedByChunks size counts plan_errors.Memory = Unit {0}
 
 -- these bytes aren't refused by their head, and this is their shape
@@ -147,7 +143,8 @@ pub record IsPlanned (size : ℕ) (cat : Catalogue) : Type 0 where
 -- edges up to the first that isn't in the block, which is kept apart
 abbrev pub Decodes : (Edge → Bool) → List Edge → List Edge → Option Edge → Type 0
 Decodes is_in read kept None = (kept ≡ read) × (position (λ e. not (is_in e)) read ≡ None)
-Decodes is_in read kept (Some stray) = (position (λ e. not (is_in e)) read ≡ Some (length kept)) × (slice_get read (length kept) ≡ Some stray)
+Decodes is_in read kept (Some stray) =
+    (position (λ e. not (is_in e)) read ≡ Some (length kept)) × (slice_get read (length kept) ≡ Some stray)
 
 -- a chunk takes one read, and none where it has no edges
 abbrev pub chunk_reads : Place → ℕ
@@ -164,9 +161,11 @@ opening_reads places = 2 + sum_by chunk_reads places
 -- whether neither a file's head nor its index is refused, nor its number of chunks: then its chunks are read
 abbrev pub are_chunks_read : ℕ → List ℕ → Bool
 are_chunks_read size bytes =
-    is_none (refusal_by_head (length bytes) (take 16 bytes)) && is_none (refusal_by_index (length bytes) (counts_in bytes))
+    is_none (refusal_by_head (length bytes) (take 16 bytes))
+    && is_none (refusal_by_index (length bytes) (counts_in bytes))
     && is_none (refusal_by_chunks size (counts_in bytes))
 
 -- how many reads opening a file takes at most: the head and the index, and each chunk with edges where the chunks are read
 abbrev pub file_reads : ℕ → List ℕ → ℕ
-file_reads size bytes = if are_chunks_read size bytes then opening_reads (chunks_of size (counts_in bytes)) else 2
+file_reads size bytes =
+    if are_chunks_read size bytes then opening_reads (chunks_of size (counts_in bytes)) else 2

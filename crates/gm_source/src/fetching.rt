@@ -1,6 +1,6 @@
 //! Fetching one chunk.
 
-ghost use Rattle.std.specs.Prelude.{◌≡◌, ◌+◌, ◌*◌, ◌<◌, ◌≤◌, ℕ, List, length, All, IsTrue, IsErrOf, IfOk, OnOk};
+ghost use Rattle.std.specs.Prelude.{◌≡◌, ◌+◌, ◌*◌, ◌<◌, ◌≤◌, ℕ, List, length, All, IsTrue, IsErrOf, IfSome, IfOk, OnOk};
 ghost use Rattle.gm_base.specs.declared.limits.TheConstants.{MAX_EDGES};
 ghost use Rattle.gm_outside.specs.Frames.{OnlyReads, CountsFaults};
 ghost use Rattle.gm_grid.specs.GridBytes.{index_end};
@@ -8,7 +8,7 @@ ghost use Rattle.gm_label.specs.Labels.{label_of};
 ghost use Rattle.gm_label.specs.Catalogues.{place_at, label_at};
 ghost use Rattle.gm_source.specs.declared.fetching.FetchError.TheVariants as FetchErrors;
 ghost use Rattle.gm_source.specs.Openings.{ReadsJust, chunk_reads};
-ghost use Rattle.gm_source.specs.Fetches.{TellsGrid, Fetches, LiesInChunk, Differs, ReadsChunk, IsUnchanged, fetch_error_of};
+ghost use Rattle.gm_source.specs.Fetches.{TellsGrid, Fetches, HoldsChunk, LiesInChunk, Differs, ReadsChunk, IsUnchanged, fetch_error_of};
 
 use crate::reading::{read_edges, widen};
 use gm_base::{Edge, Edges, Memory, Shape};
@@ -67,7 +67,7 @@ fn edge_start(shape: &Shape, index: u64) -> u64
 }
 
 /// Reads a chunk's edges up to the first that isn't in its block, which is answered.
-fn read_chunk<D: Depot>(
+pub(crate) fn read_chunk<D: Depot>(
     depot: &mut D,
     name: &str,
     cat: &Catalogue,
@@ -76,13 +76,19 @@ fn read_chunk<D: Depot>(
     edges: &mut Vec<Edge>,
 ) -> Result<Option<Edge>, Trouble>
     requires { chunk < length cat.now.places }
-    ensures frame { OnlyReads 0 (chunk_reads (place_at cat.now chunk)) (D.state depot.old) (D.state depot.new) }
-    ensures reads { IfOk result (λ stray. ReadsChunk (D.state depot.old).files name.now cat.now chunk edges.new.items stray) }
+    ensures frame { OnlyReads 0 (chunk_reads (place_at cat.now chunk))
+        (D.state depot.old) (D.state depot.new) }
+    ensures reads { IfOk result (λ stray.
+        ReadsChunk (D.state depot.old).files name.now cat.now chunk edges.new.items stray) }
     ensures told { (bytes : List ℕ) → TellsGrid (D.state depot.old).files name.now cat.now bytes
         → IfOk result (λ stray. IsUnchanged bytes cat.now chunk edges.new.items stray) }
     ensures cause { CountsFaults (D.state depot.old) (D.state depot.new) result }
-    ensures calm { (bytes : List ℕ) → IsTrue (D.state depot.old).calm → TellsGrid (D.state depot.old).files name.now cat.now bytes
+    ensures calm { (bytes : List ℕ) → IsTrue (D.state depot.old).calm
+        → TellsGrid (D.state depot.old).files name.now cat.now bytes
         → IsErrOf result Trouble.Failed → ⊥ }
+    ensures calm_range { IsTrue (D.state depot.old).calm
+        → IfSome (D.state depot.old).files (λ held. HoldsChunk held name.now cat.now chunk
+        → IsErrOf result Trouble.Failed → ⊥) }
     ensures read { (IsErrOf result Trouble.Memory → ⊥)
         → ReadsJust (chunk_reads (place_at cat.now chunk)) (D.state depot.old) (D.state depot.new) }
 {
@@ -108,6 +114,25 @@ fn two_labels(alloc: Global, cat: &Catalogue, chunk: u32, edges: &[Edge]) -> Res
     Ok(Found::Labels { kept, found })
 }
 
+/// Counts the sources of edges of a chunk's block.
+#[tactic(auto, using(gm_label::specs::CataloguesRules::labelling))]
+pub(crate) fn count_sources(
+    cat: &Catalogue,
+    chunk: u32,
+    edges: &[Edge],
+    counts: &mut SourceCounts,
+) -> Result<(), Memory>
+    requires within { chunk < length cat.now.places }
+    requires few { length edges.now ≤ MAX_EDGES }
+    requires placed { All (LiesInChunk cat.now chunk) edges.now }
+    ensures { OnOk result (counts.new ≡ label_of edges.now) }
+{
+    let _vertices = cat.shape().n();
+    let block = cat.chunk(chunk).block;
+    let (first, end) = (cat.first_source(block), cat.end_source(block));
+    counts.count(first, end, edges)
+}
+
 /// Whether these edges of a chunk's block have the label that the catalogue has of the chunk.
 #[tactic(auto, using(gm_label::specs::CataloguesRules::labelling))]
 fn has_label(
@@ -122,10 +147,7 @@ fn has_label(
     ensures yes { IfOk result (λ has. IsTrue has → label_of edges.now ≡ label_at cat.now chunk) }
     ensures no { IfOk result (λ has. label_of edges.now ≡ label_at cat.now chunk → IsTrue has) }
 {
-    let _vertices = cat.shape().n();
-    let block = cat.chunk(chunk).block;
-    let (first, end) = (cat.first_source(block), cat.end_source(block));
-    counts.count(first, end, edges)?;
+    count_sources(cat, chunk, edges, counts)?;
     Ok(counts.matches(cat.label(chunk)))
 }
 
@@ -141,7 +163,8 @@ fn check_label(
     requires few { length edges.now ≤ MAX_EDGES }
     requires placed { All (LiesInChunk cat.now chunk) edges.now }
     ensures ok { OnOk result (label_of edges.now ≡ label_at cat.now chunk) }
-    ensures changed { (found : Found) → IsErrOf result (FetchError.Changed found) → Differs cat.now chunk edges.now found }
+    ensures changed { (found : Found) → IsErrOf result (FetchError.Changed found)
+        → Differs cat.now chunk edges.now found }
     ensures no_fault { IsErrOf result FetchError.Fault → ⊥ }
 {
     if has_label(cat, chunk, edges, counts)? {
@@ -151,13 +174,13 @@ fn check_label(
     Err(FetchError::Changed { found })
 }
 
-/// Fetches chunks one after the other, each in the room of the one before.
+/// Opens a grid and fetches its chunks, one after the other, each in the room of the one before.
 #[derive(Drop)]
 pub struct Fetcher {
-    alloc: Global,
-    buffer: Vec<u8>,
-    edges: Vec<Edge>,
-    counts: SourceCounts,
+    pub(crate) alloc: Global,
+    pub(crate) buffer: Vec<u8>,
+    pub(crate) edges: Vec<Edge>,
+    pub(crate) counts: SourceCounts,
 }
 
 impl Fetcher {

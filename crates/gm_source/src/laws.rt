@@ -13,7 +13,8 @@ use gm_grid::laws::{grid_reads_back, refused_where_no_grid};
 
 /// A law: a file that has a catalogue isn't refused, and the chunks count all of its edges.
 pub fn catalogued_files_are_grids()
-    ensures taken { (bytes : List ℕ) (size : ℕ) (cat : Catalogue) → IsCatalogueOf bytes size cat → grid_refusal size bytes ≡ None }
+    ensures taken { (bytes : List ℕ) (size : ℕ) (cat : Catalogue) → IsCatalogueOf bytes size cat
+        → grid_refusal size bytes ≡ None }
     ensures edges { (bytes : List ℕ) (size : ℕ) (cat : Catalogue) → IsCatalogueOf bytes size cat
         → sum_by (λ place. place.count) cat.places ≡ length (edges_in bytes) }
 {
@@ -23,9 +24,12 @@ pub fn catalogued_files_are_grids()
 
 /// A law: a file's catalogue is over the file's edges. They are a graph of its vertices, and no more than a grid may have.
 pub fn catalogues_are_over_their_edges()
-    ensures over { (bytes : List ℕ) (size : ℕ) (cat : Catalogue) → IsCatalogueOf bytes size cat → IsOver cat (edges_in bytes) }
-    ensures graph { (bytes : List ℕ) (size : ℕ) (cat : Catalogue) → IsCatalogueOf bytes size cat → IsGraph cat.dimensions.n (edges_in bytes) }
-    ensures few { (bytes : List ℕ) (size : ℕ) (cat : Catalogue) → IsCatalogueOf bytes size cat → length (edges_in bytes) ≤ MAX_EDGES }
+    ensures over { (bytes : List ℕ) (size : ℕ) (cat : Catalogue) → IsCatalogueOf bytes size cat
+        → IsOver cat (edges_in bytes) }
+    ensures graph { (bytes : List ℕ) (size : ℕ) (cat : Catalogue) → IsCatalogueOf bytes size cat
+        → IsGraph cat.dimensions.n (edges_in bytes) }
+    ensures few { (bytes : List ℕ) (size : ℕ) (cat : Catalogue) → IsCatalogueOf bytes size cat
+        → length (edges_in bytes) ≤ MAX_EDGES }
     ensures dimensions { (bytes : List ℕ) (size : ℕ) (cat : Catalogue) → IsCatalogueOf bytes size cat
         → AreDimensions cat.dimensions.n cat.dimensions.parts }
 {

@@ -12,7 +12,7 @@ ghost use Rattle.gm_label.specs.Catalogues.{unlabelled};
 ghost use Rattle.gm_source.specs.Openings.{OpensBy, ReadsJust, ReadsUpTo, IsTold, HasHead, HasIndex, HasLabelled, IsPlanned, IsRefusedByIndex, IsRefusedByChunks, IsCatalogueOf, file_reads, opening_reads};
 
 use crate::OpenError;
-use crate::labelling::label_plan;
+use crate::fetching::Fetcher;
 use crate::reading::{are_bytes, zeros};
 use gm_base::Shape;
 use gm_grid::laws::{grid_by_parts, grid_reads_back, refused_where_no_grid};
@@ -24,9 +24,11 @@ use std::alloc::Global;
 /// How many bytes the file has.
 #[tactic(auto, using(crate::specs::OpeningsRules::openings))]
 fn file_size<D: Depot>(depot: &mut D, name: &str) -> Result<u64, OpenError>
-    ensures size { IfOk result (λ size. IsTold (D.state depot.old).files name.now (λ bytes. length bytes ≡ size)) }
+    ensures size { IfOk result (λ size.
+        IsTold (D.state depot.old).files name.now (λ bytes. length bytes ≡ size)) }
     ensures unread { (D.state depot.new).reads ≡ (D.state depot.old).reads }
-    ensures opens { (chunk_size : ℕ) → OpensBy 1 0 chunk_size name.now (D.state depot.old) (D.state depot.new) result }
+    ensures opens { (chunk_size : ℕ) → OpensBy 1 0 chunk_size name.now
+        (D.state depot.old) (D.state depot.new) result }
 {
     match depot.size(name) {
         Ok(Some(size)) => Ok(size),
@@ -58,7 +60,8 @@ fn read_shape<D: Depot>(depot: &mut D, name: &str, size: u64) -> Result<Shape, O
     ensures head { IfOk result (λ shape. IsTold (D.state depot.old).files name.now (HasHead shape)) }
     ensures long { IfOk result (λ shape. index_end shape ≤ size) }
     ensures read { OnOk result (ReadsJust 1 (D.state depot.old) (D.state depot.new)) }
-    ensures opens { (chunk_size : ℕ) → OpensBy 0 1 chunk_size name.now (D.state depot.old) (D.state depot.new) result }
+    ensures opens { (chunk_size : ℕ) → OpensBy 0 1 chunk_size name.now
+        (D.state depot.old) (D.state depot.new) result }
 {
     if size < 16 {
         return Err(OpenError::Grid(GridError::BadSize {
@@ -78,7 +81,8 @@ fn read_shape<D: Depot>(depot: &mut D, name: &str, size: u64) -> Result<Shape, O
 /// The index of these bytes in a file of so many bytes, which has the size that the index tells.
 fn check_index(alloc: Global, shape: &Shape, bytes: &[u8], size: u64) -> Result<Index, IndexError>
     requires { length bytes.now ≡ index_size shape.now }
-    ensures counts { IfOk result (λ index. (index ≡ counts_of_index bytes.now) × (length index ≡ shape.now.parts * shape.now.parts)) }
+    ensures counts { IfOk result (λ index.
+        (index ≡ counts_of_index bytes.now) × (length index ≡ shape.now.parts * shape.now.parts)) }
     ensures taken { OnOk result (refusal_by_index size (counts_of_index bytes.now) ≡ None) }
     ensures refused { IfErr result (λ error. IsRefusedByIndex size (counts_of_index bytes.now) error) }
 {
@@ -107,10 +111,12 @@ fn read_counts<D: Depot>(
 ) -> Result<Index, OpenError>
     requires size { IsTold (D.state depot.old).files name.now (λ bytes. length bytes ≡ size) }
     requires head { IsTold (D.state depot.old).files name.now (HasHead shape.now) }
-    ensures index { IfOk result (λ index. IsTold (D.state depot.old).files name.now (HasIndex shape.now index)) }
+    ensures index { IfOk result (λ index.
+        IsTold (D.state depot.old).files name.now (HasIndex shape.now index)) }
     ensures blocks { IfOk result (λ index. length index ≡ shape.now.parts * shape.now.parts) }
     ensures read { OnOk result (ReadsJust 1 (D.state depot.old) (D.state depot.new)) }
-    ensures opens { (chunk_size : ℕ) → OpensBy 0 1 chunk_size name.now (D.state depot.old) (D.state depot.new) result }
+    ensures opens { (chunk_size : ℕ) → OpensBy 0 1 chunk_size name.now
+        (D.state depot.old) (D.state depot.new) result }
 {
     let mut bytes = zeros(alloc, index_size(shape))?;
     depot.read_at(name, 16, &mut bytes)?;
@@ -129,7 +135,8 @@ fn read_plan<D: Depot>(
     chunk_size: u32,
 ) -> Result<Catalogue, OpenError>
     requires { (1 ≤ chunk_size) × (chunk_size ≤ MAX_CHUNK_SIZE) }
-    ensures planned { IfOk result (λ cat. IsTold (D.state depot.old).files name.now (HasLabelled chunk_size 0 cat)) }
+    ensures planned { IfOk result (λ cat.
+        IsTold (D.state depot.old).files name.now (HasLabelled chunk_size 0 cat)) }
     ensures chunks { IfOk result (IsPlanned chunk_size) }
     ensures read { OnOk result (ReadsJust 2 (D.state depot.old) (D.state depot.new)) }
     ensures opens { OpensBy 1 2 chunk_size name.now (D.state depot.old) (D.state depot.new) result }
@@ -144,11 +151,39 @@ fn read_plan<D: Depot>(
     }
 }
 
-/// Opens the grid in a file, cut into chunks of this size: its head, its index and each chunk with edges are read once, in this order, and
-/// the chunks' places and labels are kept.
-///
-/// `Missing` where there is no such file. `Grid` where it is no grid, or has too many chunks, with its first refusal: too short for a head,
-/// magic, shape, too short for the index, too many edges, size, too many chunks, first bad edge. `Fault` only where the depot failed.
+impl Fetcher {
+    /// Opens the grid in a file, cut into chunks of this size: its head, its index and each chunk with edges are read once, in this order, and
+    /// the chunks' places and labels are kept.
+    ///
+    /// `Missing` where there is no such file. `Grid` where it is no grid, or has too many chunks, with its first refusal: too short for a head,
+    /// magic, shape, too short for the index, too many edges, size, too many chunks, first bad edge. `Fault` only where the depot failed.
+    pub fn open<D: Depot>(
+        &mut self,
+        depot: &mut D,
+        name: &str,
+        chunk_size: u32,
+    ) -> Result<Catalogue, OpenError>
+        requires some { 1 ≤ chunk_size }
+        requires short { chunk_size ≤ MAX_CHUNK_SIZE }
+        ensures catalogue { IfOk result (λ cat.
+            IsTold (D.state depot.old).files name.now (λ bytes. IsCatalogueOf bytes chunk_size cat)) }
+        ensures opens { OpensBy 1 (2 + MAX_CHUNKS) chunk_size name.now
+            (D.state depot.old) (D.state depot.new) result }
+        ensures read { IfOk result (λ cat.
+            ReadsJust (opening_reads cat.places) (D.state depot.old) (D.state depot.new)) }
+        ensures few_reads { IfSome (D.state depot.old).files (λ held. IfSome (get held name.now)
+            (λ bytes. ReadsUpTo (file_reads chunk_size bytes) (D.state depot.old) (D.state depot.new))) }
+    {
+        refused_where_no_grid();
+        grid_reads_back();
+        grid_by_parts();
+        let mut cat = read_plan(self.alloc, depot, name, chunk_size)?;
+        self.label_plan(depot, name, chunk_size, &mut cat)?;
+        Ok(cat)
+    }
+}
+
+/// The same as [`Fetcher::open`], in room of its own.
 pub fn open_grid<D: Depot>(
     alloc: Global,
     depot: &mut D,
@@ -157,16 +192,14 @@ pub fn open_grid<D: Depot>(
 ) -> Result<Catalogue, OpenError>
     requires some { 1 ≤ chunk_size }
     requires short { chunk_size ≤ MAX_CHUNK_SIZE }
-    ensures catalogue { IfOk result (λ cat. IsTold (D.state depot.old).files name.now (λ bytes. IsCatalogueOf bytes chunk_size cat)) }
-    ensures opens { OpensBy 1 (2 + MAX_CHUNKS) chunk_size name.now (D.state depot.old) (D.state depot.new) result }
-    ensures read { IfOk result (λ cat. ReadsJust (opening_reads cat.places) (D.state depot.old) (D.state depot.new)) }
+    ensures catalogue { IfOk result (λ cat.
+        IsTold (D.state depot.old).files name.now (λ bytes. IsCatalogueOf bytes chunk_size cat)) }
+    ensures opens { OpensBy 1 (2 + MAX_CHUNKS) chunk_size name.now
+        (D.state depot.old) (D.state depot.new) result }
+    ensures read { IfOk result (λ cat.
+        ReadsJust (opening_reads cat.places) (D.state depot.old) (D.state depot.new)) }
     ensures few_reads { IfSome (D.state depot.old).files (λ held. IfSome (get held name.now)
         (λ bytes. ReadsUpTo (file_reads chunk_size bytes) (D.state depot.old) (D.state depot.new))) }
 {
-    refused_where_no_grid();
-    grid_reads_back();
-    grid_by_parts();
-    let mut cat = read_plan(alloc, depot, name, chunk_size)?;
-    label_plan(alloc, depot, name, chunk_size, &mut cat)?;
-    Ok(cat)
+    Fetcher::new(alloc).open(depot, name, chunk_size)
 }

@@ -18,7 +18,8 @@ fn decode(
     bytes: &[[u8; 12]],
     edges: &mut Vec<Edge>,
 ) -> Result<Option<Edge>, AllocError>
-    ensures { IfOk result (λ stray. Decodes (is_within ranges.now) (map edge_of_bytes bytes.now) edges.new.items stray) }
+    ensures { IfOk result (λ stray.
+        Decodes (is_within ranges.now) (map edge_of_bytes bytes.now) edges.new.items stray) }
 {
     edges.clear();
     edges.reserve_exact(bytes.len())?;
@@ -41,10 +42,12 @@ pub(crate) fn are_bytes(bytes: &[u8])
 
 /// Fills the buffer with the bytes of a file from `pos` on, by one read, or by none where it is empty.
 fn fill<D: Depot>(depot: &mut D, name: &str, pos: u64, buffer: &mut [u8]) -> Result<(), Trouble>
-    ensures bytes { IfSome (D.state depot.old).files (λ held. 0 < length buffer.old → OnOk result (HasBytesAt held name.now pos buffer.new)) }
+    ensures bytes { IfSome (D.state depot.old).files (λ held. 0 < length buffer.old
+        → OnOk result (HasBytesAt held name.now pos buffer.new)) }
     ensures length { length buffer.new ≡ length buffer.old }
     ensures cause { CountsFaults (D.state depot.old) (D.state depot.new) result }
-    ensures calm { IsTrue (D.state depot.old).calm → IfSome (D.state depot.old).files (λ held. HasRange held name.now pos (length buffer.old)
+    ensures calm { IsTrue (D.state depot.old).calm → IfSome (D.state depot.old).files (λ held.
+        HasRange held name.now pos (length buffer.old)
         → IsErrOf result Trouble.Failed → ⊥) }
     ensures read { ReadsJust (min 1 (length buffer.old)) (D.state depot.old) (D.state depot.new) }
     ensures frame { OnlyReads 0 (min 1 (length buffer.old)) (D.state depot.old) (D.state depot.new) }
@@ -65,12 +68,15 @@ pub(crate) fn read_edges<D: Depot>(
     buffer: &mut [u8],
     edges: &mut Vec<Edge>,
 ) -> Result<Option<Edge>, Trouble>
-    ensures bytes { IfSome (D.state depot.old).files (λ held. 0 < length buffer.old → OnOk result (HasBytesAt held name.now pos buffer.new)) }
+    ensures bytes { IfSome (D.state depot.old).files (λ held. 0 < length buffer.old
+        → OnOk result (HasBytesAt held name.now pos buffer.new)) }
     ensures length { length buffer.new ≡ length buffer.old }
     ensures are_bytes { AreBytes buffer.new }
-    ensures decoded { IfOk result (λ stray. Decodes (is_within ranges.now) (edges_of_bytes buffer.new) edges.new.items stray) }
+    ensures decoded { IfOk result (λ stray.
+        Decodes (is_within ranges.now) (edges_of_bytes buffer.new) edges.new.items stray) }
     ensures cause { CountsFaults (D.state depot.old) (D.state depot.new) result }
-    ensures calm { IsTrue (D.state depot.old).calm → IfSome (D.state depot.old).files (λ held. HasRange held name.now pos (length buffer.old)
+    ensures calm { IsTrue (D.state depot.old).calm → IfSome (D.state depot.old).files (λ held.
+        HasRange held name.now pos (length buffer.old)
         → IsErrOf result Trouble.Failed → ⊥) }
     ensures read { ReadsJust (min 1 (length buffer.old)) (D.state depot.old) (D.state depot.new) }
     ensures frame { OnlyReads 0 (min 1 (length buffer.old)) (D.state depot.old) (D.state depot.new) }

@@ -12,7 +12,7 @@ use Rattle.gm_source.specs.OpeningsRules.{opens_by-then, opens_by-more, opens_by
 use Rattle.gm_source.proofs.Told.{told-weaker}
 use Rattle.gm_source.proofs.LabelledChunks.{HasSizes, labelled-taken, labelled-small, labelled-catalogue, few_reads}
 use Rattle.gm_outside.specs.CausesRules.{counted_times-add}
-use Rattle.gm_source.proofs.opening.open_grid.Goals as goal
+use Rattle.gm_source.proofs.fetching.Fetcher.open.Goals as goal
 
 pub returns-in_err-label_plan-clause-opens : goal.returns-in_err-label_plan-clause-opens
 returns-in_err-label_plan-clause-opens g c =

@@ -5,20 +5,20 @@ use Rattle.std.proofs.lemmas.Result.{err_from_is_err_and}
 use Rattle.gm_source.specs.Openings.{chunk_reads, reads_before}
 use Rattle.gm_source.specs.OpeningsRules.{opens_by-more, opens_by-served}
 use Rattle.gm_source.proofs.LabelledChunks.{labels-next, labels-refused}
-use Rattle.gm_source.proofs.labelling.label_chunks.Goals as goal
+use Rattle.gm_source.proofs.fetching.Fetcher.label_chunks.Goals as goal
 
 pub loop-chunk-preserved : goal.loop-chunk-preserved
 loop-chunk-preserved g c =
     let made = c.label_chunk.ensures in
     let ok = c.in_ok-label_chunk.ensures in
-    labels-next _ _ _ _ _ _ _ _ _ _ _ _ c.loop-chunk.chunk (omega (arith, c.loop-chunk-test.true, c.chunks-chunk-end.ensures.value)) c.loop-chunk.invariant c.moved_to-block.ensures.is
-    made.cut ok.set made.room made.frame ok.served ok.read ok.labelled
+    labels-next _ _ _ _ _ _ _ c.loop-chunk.chunk (omega (arith, c.loop-chunk-test.true, c.chunks-chunk-end.ensures.value)) c.loop-chunk.invariant
+    made.cut ok.set made.frame ok.served ok.read ok.labelled
 
 pub returns-in_err-label_chunk-clause-opens : goal.returns-in_err-label_chunk-clause-opens
 returns-in_err-label_chunk-clause-opens g c size told =
     let p = err_from_is_err_and c.from_residual.result c.from_residual.ensures.1 in
     let k = c.loop-chunk.chunk in
-    rw p.1 (rw p.2 (labels-refused _ _ _ size c.args.name.now _ _ _ _ _ k _ (omega (arith, c.loop-chunk-test.true, c.chunks-chunk-end.ensures.value))
+    rw p.1 (rw p.2 (labels-refused _ _ _ size c.args.name.now _ _ k _ (omega (arith, c.loop-chunk-test.true, c.chunks-chunk-end.ensures.value))
     c.loop-chunk.invariant told (λ labelled. c.in_err-label_chunk.ensures.opens size labelled)))
 
 pub returns-clause-opens : goal.returns-clause-opens
