@@ -13,9 +13,9 @@ use Rattle.gm_base.specs.Graph.{edge}
 use Rattle.gm_changes.specs.declared.change.Change.{Change}
 use Rattle.gm_changes.specs.declared.change.Change.TheVariants.{Add, Cut}
 use Rattle.gm_changes.specs.declared.cut_sources.CutSources.{CutSources}
-use Rattle.gm_changes.specs.Concerns.{Site, lists, may_concern, concerning, takes_adds_of, sources_after_one, sources_after}
+use Rattle.gm_changes.specs.Concerns.{Site, lists, may_concern, concerning_changes, takes_adds_of, sources_after_one, sources_after}
 use Rattle.gm_changes.specs.ConcernsRules.{sources-parts}
-use Rattle.gm_changes.specs.Sources.{with_listed_sources, cuts_from, TellsSources}
+use Rattle.gm_changes.specs.Sources.{listed_changes, cuts_from, TellsSources}
 use Rattle.gm_changes.proofs.Noting.{equal_numbers, or-none}
 
 -- an added edge asks for no source
@@ -62,15 +62,15 @@ asked_for changes rest place from to is =
 
 -- what is left, where the next change is taken or not
 pub taken_next : (sources : List ℕ) (from to : ℕ) (kept rest : List Change) → lists sources from ≡ true
-    → (kept ++ Cut from to ∷ []) ++ with_listed_sources sources rest ≡ kept ++ with_listed_sources sources (Cut from to ∷ rest)
+    → (kept ++ Cut from to ∷ []) ++ listed_changes sources rest ≡ kept ++ listed_changes sources (Cut from to ∷ rest)
 taken_next sources from to kept rest listed =
-    let left = with_listed_sources sources rest in
+    let left = listed_changes sources rest in
     append_assoc kept (Cut from to ∷ []) left ∙ ap (λ b. kept ++ cond b (Cut from to ∷ left) left) (sym listed)
 
 pub left_next : (sources : List ℕ) (from to : ℕ) (kept rest : List Change) → lists sources from ≡ false
-    → kept ++ with_listed_sources sources rest ≡ kept ++ with_listed_sources sources (Cut from to ∷ rest)
+    → kept ++ listed_changes sources rest ≡ kept ++ listed_changes sources (Cut from to ∷ rest)
 left_next sources from to kept rest unlisted =
-    let left = with_listed_sources sources rest in
+    let left = listed_changes sources rest in
     ap (λ b. kept ++ cond b (Cut from to ∷ left) left) (sym unlisted)
 
 -- the sources with one change more
@@ -85,35 +85,35 @@ pub told_next : (near : List Change) (sources : List ℕ) (at : ℕ) (d : Change
 told_next near sources at d told within tells = subst (λ (us : List ℕ). TellsSources near us told) (sym (sources_next near sources at d within)) tells
 
 pub joined_next : (near : List Change) (sources : List ℕ) (at : ℕ) (d : Change) (kept new : List Change) → at < length near
-    → new ++ with_listed_sources (sources_after_one (slice_index_or near at d) (sources_after (take at near) sources)) (drop (at + 1) near)
-    ≡ kept ++ with_listed_sources (sources_after (take at near) sources) (slice_index_or near at d ∷ drop (at + 1) near)
-    → kept ++ with_listed_sources (sources_after (take at near) sources) (drop at near) ≡ with_listed_sources sources near
-    → new ++ with_listed_sources (sources_after (take (at + 1) near) sources) (drop (at + 1) near) ≡ with_listed_sources sources near
+    → new ++ listed_changes (sources_after_one (slice_index_or near at d) (sources_after (take at near) sources)) (drop (at + 1) near)
+    ≡ kept ++ listed_changes (sources_after (take at near) sources) (slice_index_or near at d ∷ drop (at + 1) near)
+    → kept ++ listed_changes (sources_after (take at near) sources) (drop at near) ≡ listed_changes sources near
+    → new ++ listed_changes (sources_after (take (at + 1) near) sources) (drop (at + 1) near) ≡ listed_changes sources near
 joined_next near sources at d kept new within step joined =
     let now = sources_after (take at near) sources in
-    ap (λ us. new ++ with_listed_sources us (drop (at + 1) near)) (sources_next near sources at d within)
+    ap (λ us. new ++ listed_changes us (drop (at + 1) near)) (sources_next near sources at d within)
     ∙ step
-    ∙ ap (λ cs. kept ++ with_listed_sources now cs) (sym (drop_more near at d within))
+    ∙ ap (λ cs. kept ++ listed_changes now cs) (sym (drop_more near at d within))
     ∙ joined
 
 -- what concerns a chunk is found by its block, and then by its sources
 pub by_block_and_sources : (d : Dimensions) (site : Site) (sources : List ℕ) (changes : List Change)
-    → with_listed_sources sources (filter (may_concern d site) changes) ≡ concerning d site sources changes
+    → listed_changes sources (filter (may_concern d site) changes) ≡ concerning_changes d site sources changes
 by_block_and_sources d site sources [] = refl
 by_block_and_sources d site sources (Add e ∷ changes) =
     let near = filter (may_concern d site) changes in
-    let at : (b : Bool) → with_listed_sources sources (cond b (Add e ∷ near) near)
-    ≡ cond b (Add e ∷ concerning d site (e.from ∷ sources) changes) (concerning d site sources changes) = elim [
+    let at : (b : Bool) → listed_changes sources (cond b (Add e ∷ near) near)
+    ≡ cond b (Add e ∷ concerning_changes d site (e.from ∷ sources) changes) (concerning_changes d site sources changes) = elim [
       | true ↦ ap (λ cs. Add e ∷ cs) (by_block_and_sources d site (e.from ∷ sources) changes)
       | false ↦ by_block_and_sources d site sources changes
     ] in
     at (takes_adds_of (block_of d e) site)
 by_block_and_sources d site sources (Cut from to ∷ changes) =
     let near = filter (may_concern d site) changes in
-    let rest = concerning d site sources changes in
+    let rest = concerning_changes d site sources changes in
     let here = lists sources from in
     let ih = by_block_and_sources d site sources changes in
-    let at : (b : Bool) → with_listed_sources sources (cond b (Cut from to ∷ near) near) ≡ cond (b && here) (Cut from to ∷ rest) rest = elim [
+    let at : (b : Bool) → listed_changes sources (cond b (Cut from to ∷ near) near) ≡ cond (b && here) (Cut from to ∷ rest) rest = elim [
       | true ↦ ap (λ cs. cond here (Cut from to ∷ cs) cs) ih
       | false ↦ ih
     ] in

@@ -14,7 +14,7 @@ use Rattle.gm_changes.specs.declared.change.Change.{Change}
 use Rattle.gm_changes.specs.declared.change.Change.TheVariants.{Add, Cut}
 use Rattle.gm_changes.specs.declared.last_cuts.LastCuts.{LastCuts}
 use Rattle.gm_changes.specs.Changes.{is_between}
-use Rattle.gm_changes.specs.Kept.{cuts_edge, is_cut, uncut}
+use Rattle.gm_changes.specs.Kept.{cuts_edge, is_cut, uncut_edges}
 use Rattle.gm_changes.specs.LastCuts.{ends_cmp, is_from, mark_of, tells_cut, HasNoted, AreLastCuts}
 
 pub equal_numbers : (x y : ℕ) → is_eq (nat_cmp x y) ≡ eqb y x
@@ -138,10 +138,10 @@ nothing_at test (entry ∷ entries) none = absurd (omega arith)
 
 -- without last cuts every edge is left
 pub none_noted : (changes : List Change) (cuts : LastCuts) (edges : List Edge) → AreLastCuts changes cuts → btree_map_len cuts.places ≡ 0
-    → edges ≡ uncut changes edges
+    → edges ≡ uncut_edges changes edges
 none_noted changes cuts [] are none = refl
 none_noted changes cuts (e ∷ edges) are none =
-    let left = uncut changes edges in
+    let left = uncut_edges changes edges in
     let marked = slice_index_or cuts.marks (mark_of e.from e.to) false in
     let unset : is_from 0 (get ends_cmp cuts.places (e.from, e.to)) ≡ false = ap (is_from 0) (nothing_at (is_at (ends_cmp (e.from, e.to))) cuts.places.entries none) in
     let stays : is_cut changes e ≡ false = sym (are 0 e) ∙ and_right marked _ unset in

@@ -1,9 +1,8 @@
 -- What the histories answer for a version, and what the next update does to them.
-use Rattle.std.proofs.Common.{◌≡◌, ℕ, zero, suc, ◌+◌, ◌<◌, ◌≤◌, ◌||◌, eqb, List, [], ◌∷◌, ◌++◌, length, inl, inr, sym, ap, ◌∙◌, refl, subst, arith}
+use Rattle.std.proofs.Common.{◌≡◌, ℕ, zero, suc, ◌+◌, ◌<◌, ◌≤◌, List, [], ◌∷◌, ◌++◌, length, inl, inr, sym, ap, ◌∙◌, refl, subst, arith}
 use Rattle.std.specs.List.{fold, filter, All}
 use Rattle.std.proofs.lemmas.Bool.{cases_lt}
 use Rattle.std.proofs.lemmas.List.{get_or_append_left, get_or_push, length_push}
-use Rattle.std.proofs.lemmas.List.Folds.{list_any-append}
 use Rattle.std.proofs.lemmas.List.Elements.{All-from_recursion, recursion_from_All, All-same, All-append}
 use Rattle.gm_base.specs.declared.edge.Edge.{Edge}
 use Rattle.gm_base.specs.declared.copies.Key.{Key}
@@ -16,11 +15,11 @@ use Rattle.gm_changes.specs.ConcernsRules.{left_out_by_block}
 use Rattle.gm_label.specs.Catalogues.{Catalogue, sources_at, base_at, IsOver}
 use Rattle.gm_versions.specs.declared.histories.Histories.{Histories}
 use Rattle.gm_versions.specs.declared.versions.Versions.{Versions}
-use Rattle.gm_versions.specs.Contents.{site_at, changes_at, sources_at_after, next_changes_at, added_at_after, content_after, changes_up_to, changes_near, last_update}
+use Rattle.gm_versions.specs.Contents.{site_at, changes_at, sources_at_after, next_changes_at, content_after, changes_up_to, changes_near, last_update}
 use Rattle.gm_versions.specs.Snapshots.{Snapshot}
 use Rattle.gm_versions.specs.Keys.{content_of_key, changes_of_tag, IsUpdateUpTo, IsVersionKey, update_of}
 use Rattle.std.proofs.Math.Seq.{take-append_seam}
-use Rattle.gm_versions.specs.ContentsRules.{changes-taken, update_at, concerning-near, base-placed}
+use Rattle.gm_versions.specs.ContentsRules.{changes-taken, update_at, concerning_changes-near, base-placed}
 use Rattle.gm_versions.specs.Histories.{ChunkHistory, last_of, updates_up_to, history_up_to, IsUpTo, sources_in, with_update, history_of, with_change}
 use Rattle.gm_versions.specs.Kept.{history_in, AreUpTo, IsLogged, IsKeptBefore, AreNotedFor, IsOf, AreSame}
 use Rattle.gm_versions.proofs.HistorySteps.{concerns-same, history-up_to, history-now, history-last, history-lists, history-noted}
@@ -166,7 +165,7 @@ copied-placed cat updates version c raw placed =
     let d = cat.dimensions in
     let site = site_at cat c in
     sym (left_out_by_block d site (sources_at cat c) (changes_near cat updates c version) raw (recursion_from_All (IsPlaced d site (sources_at cat c)) raw placed))
-    ∙ ap (λ (cs : List Change). edges_after cs raw) (concerning-near cat updates c version)
+    ∙ ap (λ (cs : List Change). edges_after cs raw) (concerning_changes-near cat updates c version)
 
 pub copied-content : (cat : Catalogue) (updates : List (List Change)) (key : Key) (c : ℕ) (raw edges : List Edge) (snapshot_of : ℕ → Snapshot)
     → IsVersionKey (length updates) c key → IsOver cat edges → raw ≡ base_at cat edges c
@@ -180,3 +179,5 @@ copied-content cat updates key c raw edges snapshot_of names over base =
     ∙ ap (edges_after (changes_at cat c (changes_up_to updates (update_of key.tag)))) base
     ∙ ap (λ (cs : List Change). content_after cat edges cs c) (tag-changes updates snapshot_of (length updates) key.tag names.update)
     ∙ ap (content_after cat edges (changes_of_tag updates snapshot_of key.tag)) (sym names.chunk)
+
+pub ruleset updates_kept = (concerns-answered, nothing-later, kept-next, kept-undone, same-of)

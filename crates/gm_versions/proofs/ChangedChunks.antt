@@ -10,7 +10,7 @@ use Rattle.gm_label.specs.Catalogues.{Catalogue}
 use Rattle.gm_versions.specs.declared.versions.Versions.{Versions}
 use Rattle.gm_versions.specs.Contents.{changes_at, added_at_after, changes_up_to, all_changes, is_some_change, last_update}
 use Rattle.gm_versions.specs.Snapshots.{version_of, changes_of, added_sources_of, is_changed, overlay_of, overlays_of}
-use Rattle.gm_versions.specs.ContentsRules.{none_is, no_update, concerning-up_to_last, all-taken, last-all_taken}
+use Rattle.gm_versions.specs.ContentsRules.{none_is, no_update, concerning_changes-up_to_last, all-taken, last-all_taken}
 use Rattle.gm_versions.specs.WalksRules.{told_of, told_in, told-filtered}
 use Rattle.gm_versions.specs.Histories.{ChunkHistory, no_history, last_of, history_up_to, sources_in, history_of, overlay_in, overlays_in}
 use Rattle.gm_versions.specs.Kept.{history_in, IsOf}
@@ -33,7 +33,7 @@ unchanged-last cat updates c version =
     let last = last_update cat updates c version in
     let at : (b : Bool) → is_some_change seen ≡ b → eqb last 0 ≡ not b = elim [
       | true ↦ λ some. ne_eqb last 0 (λ zero_.
-          let none : seen ≡ [] = sym (concerning-up_to_last cat updates c version) ∙ ap (λ (t : ℕ). changes_at cat c (changes_up_to updates t)) zero_ in
+          let none : seen ≡ [] = sym (concerning_changes-up_to_last cat updates c version) ∙ ap (λ (t : ℕ). changes_at cat c (changes_up_to updates t)) zero_ in
           let contrary : false ≡ true = sym (ap is_some_change none) ∙ some in absurd (cc))
       | false ↦ λ none. eq-eqb last 0 (no_update cat updates c version (none_is seen none))
     ] in

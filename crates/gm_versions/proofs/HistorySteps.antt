@@ -1,8 +1,8 @@
 -- A chunk's history, update by update and change by change.
-use Rattle.std.proofs.Common.{◌≡◌, ℕ, zero, suc, ◌+◌, ◌-◌, ◌<◌, ◌≤◌, Bool, true, false, cond, ◌||◌, ◌&&◌, eqb, ltb, leb, List, [], ◌∷◌, ◌++◌, All, length, map, take, get_or, append_assoc, append-nil, inl, inr, sym, ap, ap₂, ◌∙◌, refl, arith}
+use Rattle.std.proofs.Common.{◌≡◌, ℕ, zero, suc, ◌-◌, ◌<◌, ◌≤◌, Bool, true, false, cond, ◌||◌, ◌&&◌, eqb, ltb, leb, List, [], ◌∷◌, ◌++◌, All, length, map, take, get_or, append_assoc, append-nil, inl, inr, sym, ap, ap₂, ◌∙◌, refl, arith}
 use Rattle.std.specs.List.{fold, filter, AllWithin}
 use Rattle.std.specs.List.Sorted.{IsNonDecreasingBy}
-use Rattle.std.proofs.lemmas.Bool.{cases_lt, cond-true, cond-false, ltb-false, lt-ltb, le-ltb, le-leb, lt-leb, leb-true}
+use Rattle.std.proofs.lemmas.Bool.{cases_lt, cond-true, cond-false, lt-ltb, le-ltb, le-leb, lt-leb, leb-true}
 use Rattle.std.proofs.lemmas.List.{map-append, length_push, get_or_push}
 use Rattle.std.proofs.lemmas.List.Elements.{filter-append, All-cons, All-nil, All-get_or}
 use Rattle.std.proofs.lemmas.List.Sums.{length-filter, count_by-le-length}
@@ -12,7 +12,7 @@ use Rattle.gm_base.specs.Dimensions.{block_of}
 use Rattle.gm_base.specs.Graph.{edge}
 use Rattle.gm_changes.specs.declared.change.Change.{Change}
 use Rattle.gm_changes.specs.declared.change.Change.TheVariants.{Add, Cut}
-use Rattle.gm_changes.specs.Concerns.{lists, concerns, concerning, sources_after_one}
+use Rattle.gm_changes.specs.Concerns.{lists, concerns, concerning_changes, sources_after_one}
 use Rattle.gm_label.specs.Catalogues.{Catalogue, sources_at}
 use Rattle.gm_versions.specs.declared.history.AddedSource.{AddedSource}
 use Rattle.gm_versions.specs.Contents.{site_at, changes_at, sources_at_after, added_sources, added_at_after, changes_up_to, is_some_change, update_changes_at, last_update}
@@ -118,7 +118,7 @@ touched number h change = with_touch number (added_sources (change ∷ [])) h
 
 changes-touched : (cat : Catalogue) (c number : ℕ) (h : ChunkHistory) (batch : List Change) (sources : List ℕ)
     → ((u : ℕ) → lists sources u ≡ lists (sources_at cat c ++ sources_in h) u)
-    → fold (with_change cat c number) h batch ≡ fold (touched number) h (concerning cat.dimensions (site_at cat c) sources batch)
+    → fold (with_change cat c number) h batch ≡ fold (touched number) h (concerning_changes cat.dimensions (site_at cat c) sources batch)
 unfolding touched
 changes-touched cat c number h [] sources same = refl
 changes-touched cat c number h (x ∷ batch) sources same =
@@ -127,7 +127,7 @@ changes-touched cat c number h (x ∷ batch) sources same =
     let known = sources_at cat c ++ sources_in h in
     let next = touched number h x in
     let at : (b : Bool) → fold (with_change cat c number) (cond b next h) batch
-    ≡ fold (touched number) h (cond b (x ∷ concerning d site (sources_after_one x sources) batch) (concerning d site sources batch)) = elim [
+    ≡ fold (touched number) h (cond b (x ∷ concerning_changes d site (sources_after_one x sources) batch) (concerning_changes d site sources batch)) = elim [
       | true ↦
           changes-touched cat c number next batch (sources_after_one x sources) (λ u.
           sources-grown known sources x same u
@@ -183,16 +183,17 @@ history-lists cat c updates version u =
 -- the changes of the next update
 pub history-noted : (cat : Catalogue) (c : ℕ) (updates : List (List Change)) (version : ℕ) (batch : List Change)
     → fold (with_change cat c (suc version)) (history_of cat c updates version) batch
-    ≡ with_update (suc version) (concerning cat.dimensions (site_at cat c) (sources_at_after cat c (changes_up_to updates version)) batch) (history_of cat c updates version)
+    ≡ with_update (suc version) (concerning_changes cat.dimensions (site_at cat c) (sources_at_after cat c (changes_up_to updates version)) batch) (history_of cat c updates version)
 history-noted cat c updates version batch =
     let h = history_of cat c updates version in
     let sources = sources_at_after cat c (changes_up_to updates version) in
-    let next = concerning cat.dimensions (site_at cat c) sources batch in
+    let next = concerning_changes cat.dimensions (site_at cat c) sources batch in
     let last = history-last cat c updates version in
     let low = last-le cat updates c version in
     let made = λ (us : List ℕ) (xs : List AddedSource). let now : ChunkHistory = record { updates = us; added = xs } in now in
     changes-touched cat c (suc version) h batch sources (history-lists cat c updates version)
     ∙ ap₂ made (updates-touched (suc version) h next (omega (arith, last, low))) (added-touched (suc version) h next)
+
 -- ---- a history at an earlier version
 
 filter-added : (version number : ℕ) (sources : List ℕ) → added_up_to version (added_by number sources) ≡ cond (leb number version) (added_by number sources) []
@@ -267,12 +268,6 @@ history-up_to cat c updates version (suc count) small =
     ]
 
 -- ---- one touch more
-
-pub touch-before : (version number : ℕ) (sources : List ℕ) (h : ChunkHistory) → version < number → history_up_to version (with_touch number sources h) ≡ history_up_to version h
-touch-before version number sources h later = up_to-before version number (ltb (last_of h.updates) number) sources h later
-
-pub touch-within : (number : ℕ) (sources : List ℕ) (h : ChunkHistory) → IsUpTo number h → IsUpTo number (with_touch number sources h)
-touch-within number sources h up_to = up_to-within number number (ltb (last_of h.updates) number) sources h (omega arith) up_to
 
 -- a history up to a version is none more
 pub up_to-again : (version : ℕ) (h : ChunkHistory) → IsUpTo version (history_up_to version h)

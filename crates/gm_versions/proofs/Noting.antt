@@ -1,20 +1,12 @@
 -- One change more, for a chunk and for all of them.
-use Rattle.std.proofs.Common.{◌≡◌, ℕ, ◌+◌, ◌<◌, ◌≤◌, ◌⊎◌, ◌++◌, Bool, false, cond, List, [], ◌∷◌, length, drop, get_or, sym, ap, ◌∙◌}
+use Rattle.std.proofs.Common.{◌≡◌, ℕ, ◌+◌, ◌<◌, List, length, drop, get_or, sym, ap, ◌∙◌}
 use Rattle.std.specs.List.{fold}
 use Rattle.std.proofs.lemmas.List.{at_drop_more}
 use Rattle.gm_changes.specs.declared.change.Change.{Change}
-use Rattle.gm_label.specs.Catalogues.{Catalogue, sources_at}
+use Rattle.gm_label.specs.Catalogues.{Catalogue}
 use Rattle.gm_versions.specs.declared.histories.Histories.{Histories}
 use Rattle.gm_versions.specs.Kept.{IsKeptBefore}
-use Rattle.gm_versions.specs.Contents.{added_sources}
-use Rattle.gm_versions.specs.Reaches.{IsReachOf}
-use Rattle.gm_versions.specs.Histories.{ChunkHistory, sources_in, with_touch, with_change}
-
--- a change out of reach is no change of the chunk
-pub unreached : (cat : Catalogue) (q number first end : ℕ) (h : ChunkHistory) (change : Change) → IsReachOf cat change first end → q < length cat.places
-    → (q < first) ⊎ (end ≤ q) → with_change cat q number h change ≡ h
-unreached cat q number first end h change reach within out =
-    ap (λ (b : Bool). cond b (with_touch number (added_sources (change ∷ [])) h) h) (reach.outside q (sources_at cat q ++ sources_in h) within out)
+use Rattle.gm_versions.specs.Histories.{ChunkHistory, with_change}
 
 pub kept-then : (number : ℕ) (first second third : Histories) → IsKeptBefore number first second → IsKeptBefore number second third → IsKeptBefore number first third
 kept-then number first second third a b = record {

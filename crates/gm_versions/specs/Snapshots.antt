@@ -1,5 +1,5 @@
 -- What a job sees of a grid that changes.
-use Rattle.std.specs.Prelude.{◌≡◌, ℕ, ◌≤◌, Bool, if◌then◌else◌, List, [], ◌++◌, length, map, take, All}
+use Rattle.std.specs.Prelude.{ℕ, ◌≤◌, Bool, if◌then◌else◌, List, [], ◌++◌, length, map, take, All}
 use Rattle.std.specs.List.{filter}
 use Rattle.gm_base.specs.declared.limits.TheConstants.{MAX_CHANGES}
 use Rattle.gm_base.specs.declared.edge.Edge.{Edge}
@@ -10,7 +10,7 @@ use Rattle.gm_changes.specs.declared.change.Change.{Change}
 use Rattle.gm_changes.specs.Changes.{ChangesWithin, edges_after}
 use Rattle.gm_label.specs.declared.chunk.Overlay.{Overlay}
 use Rattle.gm_label.specs.Catalogues.{Catalogue, sources_at, chunk_numbers}
-use Rattle.gm_versions.specs.Contents.{changes_at, next_changes_at, content_after, added_at_after, changes_up_to, all_changes, is_some_change, last_update}
+use Rattle.gm_versions.specs.Contents.{changes_at, next_changes_at, content_after, added_at_after, all_changes, is_some_change, last_update}
 
 -- the updates above a job's line, and the changes that the job makes to its own view. Its keys carry its number
 pub record Snapshot : Type 0 where

@@ -98,17 +98,11 @@ impl Histories {
     }
 
     /// Whether a change that comes next after the updates up to a version concerns a chunk.
-    pub(crate) fn concerns(
-        &self,
-        cat: &Catalogue,
-        version: u32,
-        chunk: u32,
-        change: Change,
-    ) -> bool
+    pub(crate) fn concerns(&self, cat: &Catalogue, version: u32, chunk: u32, change: Change) -> bool
         requires chunk { chunk < length cat.now.places }
         requires ends { ChangesWithin cat.now.dimensions.n change }
-        ensures { result ≡ concerns cat.now.dimensions (site_at cat.now chunk)
-            (sources_at cat.now chunk ++ sources_in (history_up_to version (history_in self.now chunk))) change }
+        ensures { let h = history_up_to version (history_in self.now chunk) in
+            result ≡ concerns cat.now.dimensions (site_at cat.now chunk) (sources_at cat.now chunk ++ sources_in h) change }
     {
         let here = cat.chunk(chunk).block;
         match change {
@@ -242,7 +236,8 @@ impl Histories {
 
     /// Takes back what later updates than this version brought.
     pub(crate) fn roll_back(&mut self, version: u32)
-        ensures { IsLogged version self.old → (q : ℕ) → history_in self.new q ≡ history_up_to version (history_in self.old q) }
+        ensures { IsLogged version self.old
+            → (q : ℕ) → history_in self.new q ≡ history_up_to version (history_in self.old q) }
     {
         while let Some(chunk) = self.undo_log.pop() {
             self.roll_back_at(version, chunk);

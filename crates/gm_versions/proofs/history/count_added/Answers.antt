@@ -1,4 +1,4 @@
-use Rattle.std.proofs.Common.{ℕ, leb, rules}
+use Rattle.std.proofs.Common.{leb, rules}
 use Rattle.std.proofs.lemmas.List.Sorted.{IsPartitionPoint-from_clause, IsPartitionedBy-leb}
 use Rattle.gm_versions.specs.declared.history.AddedSource.{AddedSource}
 use Rattle.gm_versions.proofs.HistorySteps.{taken-filter}

@@ -1,4 +1,4 @@
-use Rattle.std.proofs.Common.{◌<◌, ◌∙◌, List, ℕ, eqb, length, map, nat_cmp, sym, ap, le-ltb, arith}
+use Rattle.std.proofs.Common.{◌∙◌, ℕ, eqb, map, nat_cmp, sym, ap, le-ltb, arith}
 use Rattle.std.specs.BTreeMap.{get}
 use Rattle.std.proofs.lemmas.List.{get_or-map, length-map}
 use Rattle.gm_versions.specs.declared.history.AddedSource.{AddedSource}

@@ -1,4 +1,4 @@
-use Rattle.std.proofs.Common.{ℕ, ◌≡◌, ◌<◌, false, length, eqb, inr, ◌∙◌, arith}
+use Rattle.std.proofs.Common.{◌≡◌, ◌<◌, false, length, eqb, ◌∙◌, arith}
 use Rattle.std.proofs.lemmas.Bool.{cond-false, ne_eqb}
 use Rattle.gm_versions.specs.Kept.{history_in}
 use Rattle.gm_versions.specs.Histories.{with_change}
