@@ -92,8 +92,6 @@ module _ (d : Dimensions) (site : ℕ → Site) (sources : ℕ → List ℕ) (ba
   all_of zero n = left_after e changes n
   all_of (suc more) n = count_after e changes n
 
-  lasts : List ℕ → ℕ
-  lasts chunks = count_by takes chunks
 
   counts : (chunks : List ℕ) (last : ℕ) → ((c : ℕ) → AllByRecursion (IsPlaced d (site c) (sources c)) (base c))
       → last < 2 → count_by takes chunks ≡ last

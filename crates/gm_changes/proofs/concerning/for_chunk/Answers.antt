@@ -3,7 +3,7 @@ use Rattle.std.specs.List.{filter}
 use Rattle.gm_changes.specs.declared.change.Change.{Change}
 use Rattle.gm_changes.specs.Concerns.{Site, may_concern}
 use Rattle.gm_changes.specs.Sources.{listed_changes}
-use Rattle.gm_changes.proofs.Listing.{by_block_and_sources}
+use Rattle.gm_changes.proofs.Noting.{by_block_and_sources}
 use Rattle.gm_changes.proofs.concerning.for_chunk.Goals as goal
 
 pub returns : goal.returns

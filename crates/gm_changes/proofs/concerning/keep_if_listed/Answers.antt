@@ -3,7 +3,7 @@ use Rattle.gm_changes.specs.declared.change.Change.{Change}
 use Rattle.gm_changes.specs.declared.change.Change.TheVariants.{Cut}
 use Rattle.gm_changes.specs.Concerns.{lists, sources_after_one}
 use Rattle.gm_changes.specs.Sources.{listed_changes, TellsSources}
-use Rattle.gm_changes.proofs.Listing.{asked_for, taken_next, left_next}
+use Rattle.gm_changes.proofs.Noting.{asked_for, taken_next, left_next}
 use Rattle.gm_changes.proofs.concerning.keep_if_listed.Goals as goal
 
 pub returns-in_ok-push-in-Add-clause-told : goal.returns-in_ok-push-in-Add-clause-told

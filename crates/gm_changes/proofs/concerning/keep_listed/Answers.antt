@@ -2,7 +2,7 @@ use Rattle.std.proofs.Common.{◌+◌, ◌++◌, take, drop, ap}
 use Rattle.std.proofs.lemmas.List.{drop_more}
 use Rattle.gm_changes.specs.Concerns.{sources_after}
 use Rattle.gm_changes.specs.Sources.{listed_changes}
-use Rattle.gm_changes.proofs.Listing.{told_next, joined_next}
+use Rattle.gm_changes.proofs.Noting.{told_next, joined_next}
 use Rattle.gm_changes.proofs.concerning.keep_listed.Goals as goal
 
 pub loop-change-init : goal.loop-change-init

@@ -8,8 +8,7 @@ use Rattle.gm_label.specs.declared.chunk.Chunk.{Chunk}
 use Rattle.gm_changes.specs.Concerns.{may_concern, possible_changes, site_of}
 use Rattle.gm_versions.specs.Contents.{site_at, possible_changes_at}
 use Rattle.gm_versions.specs.ContentsRules.{update_at}
-use Rattle.gm_versions.proofs.Answering.{numbers-answered}
-use Rattle.gm_versions.proofs.Gathering.{batches_of, gathered-next, near-history, numbers_within}
+use Rattle.gm_versions.proofs.Answering.{numbers-answered, batches_of, gathered-next, near-history, numbers_within}
 use Rattle.gm_versions.proofs.versions.Versions.gather_updates.Goals as goal
 
 pub get-requires-clause-some : goal.get-requires-clause-some

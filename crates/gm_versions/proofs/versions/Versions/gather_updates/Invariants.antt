@@ -1,6 +1,6 @@
 use Rattle.std.proofs.Common.{◌≡◌, ◌≤◌, ◌++◌, drop, take, vec_len}
 use Rattle.gm_versions.specs.Contents.{possible_changes_at}
-use Rattle.gm_versions.proofs.Gathering.{batches_of}
+use Rattle.gm_versions.proofs.Answering.{batches_of}
 use Rattle.gm_versions.proofs.versions.Versions.gather_updates.Given as goal
 
 -- what is in the list, and what is left to gather
