@@ -234,7 +234,7 @@ copied-content cat updates key c raw edges snapshot_of names over base =
     ∙ ap (λ (cs : List Change). content_after cat edges cs c) (tag-changes updates snapshot_of (length updates) key.tag names.update)
     ∙ ap (content_after cat edges (changes_of_tag updates snapshot_of key.tag)) (sym names.chunk)
 
-pub ruleset updates_kept = (concerns-answered, nothing-later, kept-next, kept-undone, same-of)
+pub ruleset updates_kept = (source-answered, concerns-answered, nothing-later, kept-next, kept-undone, same-of)
 
 -- ---- The overlays of a map's entries, which ascend by chunk, are those of all chunks
 

@@ -88,13 +88,22 @@ impl Histories {
     }
 
     /// Whether an update up to a version added a source to a chunk.
-    pub(crate) fn has_added(&self, version: u32, chunk: u32, source: u32) -> bool
+    fn has_added(&self, version: u32, chunk: u32, source: u32) -> bool
         ensures { result ≡ lists (sources_in (history_up_to version (history_in self.now chunk))) source }
     {
         match self.by_chunk.get(&chunk) {
             Some(history) => history.has_added(version, source),
             None => false,
         }
+    }
+
+    /// Whether a source stands in a chunk's label, or was added to the chunk by an update up to a version.
+    pub(crate) fn has_source(&self, cat: &Catalogue, version: u32, chunk: u32, source: u32) -> bool
+        requires { chunk < length cat.now.places }
+        ensures { let h = history_up_to version (history_in self.now chunk) in
+            result ≡ lists (sources_at cat.now chunk ++ sources_in h) source }
+    {
+        cat.lists(chunk, source) || self.has_added(version, chunk, source)
     }
 
     /// Whether a change that comes next after the updates up to a version concerns a chunk.
@@ -110,7 +119,7 @@ impl Histories {
             Change::Cut { from, to } => {
                 let weight = 0;
                 cat.shape().block_of(&Edge { from, to, weight }) == here
-                    && (cat.lists(chunk, from) || self.has_added(version, chunk, from))
+                    && self.has_source(cat, version, chunk, from)
             }
         }
     }

@@ -130,6 +130,7 @@ impl Versions {
     }
 
     /// Whether a source stands in a chunk's label, or was added to the chunk by an update up to a version.
+    #[tactic(auto, using(crate::proofs::Answering::updates_kept))]
     pub fn has_source(&self, cat: &Catalogue, version: u32, chunk: u32, source: u32) -> bool
         requires catalogue { IsOf cat.now self.now }
         requires version { version ≤ length self.now.batches }
@@ -137,7 +138,7 @@ impl Versions {
         ensures { let before = changes_up_to self.now.batches version in
             result ≡ lists (sources_at_after cat.now chunk before) source }
     {
-        cat.lists(chunk, source) || self.histories.has_added(version, chunk, source)
+        self.histories.has_source(cat, version, chunk, source)
     }
 
     /// Whether a change that comes next after the updates up to a version concerns a chunk.

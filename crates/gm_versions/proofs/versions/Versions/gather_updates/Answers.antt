@@ -1,4 +1,4 @@
-use Rattle.std.proofs.Common.{◌≡◌, Bool, ℕ, ◌-◌, ◌≤◌, length, take, get_or, vec_len, refl, ◌++◌, List, All, ap, sym, ◌∙◌, append-nil, subst, arith}
+use Rattle.std.proofs.Common.{◌≡◌, Bool, ℕ, ◌-◌, ◌<◌, ◌≤◌, length, take, get_or, vec_len, refl, ◌++◌, List, All, ap, sym, ◌∙◌, append-nil, subst, arith}
 use Rattle.std.specs.List.{filter}
 use Rattle.std.proofs.lemmas.List.{drop_all, length-append, take-append-le}
 use Rattle.gm_base.specs.Dimensions.{Dimensions}
@@ -7,28 +7,27 @@ use Rattle.gm_changes.specs.declared.change.Change.{Change}
 use Rattle.gm_label.specs.declared.chunk.Chunk.{Chunk}
 use Rattle.gm_changes.specs.Concerns.{may_concern, possible_changes, site_of}
 use Rattle.gm_versions.specs.Contents.{site_at, possible_changes_at}
+use Rattle.gm_label.specs.Catalogues.{Catalogue}
+use Rattle.gm_versions.specs.declared.versions.Versions.{Versions}
+use Rattle.gm_versions.specs.Histories.{history_of}
 use Rattle.gm_versions.specs.ContentsRules.{update_at}
 use Rattle.gm_versions.proofs.Answering.{numbers-answered, batches_of, gathered-next, near-history, numbers_within}
 use Rattle.gm_versions.proofs.versions.Versions.gather_updates.Goals as goal
 
-pub get-requires-clause-some : goal.get-requires-clause-some
-get-requires-clause-some c =
-    let items = c.updates_up_to-update-items.result.now in
-    let Fits = λ (number : ℕ). (1 ≤ number) × (number ≤ c.args.version) in
-    let numbers = c.updates_up_to-update-items.ensures ∙ numbers-answered c.args.cat.now c.args.self.now c.args.version c.args.chunk c.requires.catalogue c.requires.version c.requires.chunk in
-    (All-get_or Fits items c.loop-update.update-index 0 c.loop-update-test.true
-    (subst (All Fits) (sym numbers) (numbers_within c.args.cat.now c.args.self.now.batches c.args.chunk c.args.version))).0
+-- each of the updates that are gone through is one of those up to the version
+at : (cat : Catalogue) (versions : Versions) (version chunk k : ℕ) (numbers : List ℕ) → numbers ≡ (history_of cat chunk versions.batches version).updates → k < length numbers
+    → (1 ≤ get_or numbers k 0) × (get_or numbers k 0 ≤ version)
+at cat versions version chunk k numbers is within =
+    let Fits = λ (number : ℕ). (1 ≤ number) × (number ≤ version) in
+    All-get_or Fits numbers k 0 within (subst (All Fits) (sym is) (numbers_within cat versions.batches chunk version))
 
-pub get-requires-clause-within : goal.get-requires-clause-within
-get-requires-clause-within c =
-    let items = c.updates_up_to-update-items.result.now in
-    let Fits = λ (number : ℕ). (1 ≤ number) × (number ≤ c.args.version) in
+pub get-requires : goal.get-requires
+get-requires c =
     let numbers = c.updates_up_to-update-items.ensures ∙ numbers-answered c.args.cat.now c.args.self.now c.args.version c.args.chunk c.requires.catalogue c.requires.version c.requires.chunk in
-    let fits = All-get_or Fits items c.loop-update.update-index 0 c.loop-update-test.true
-    (subst (All Fits) (sym numbers) (numbers_within c.args.cat.now c.args.self.now.batches c.args.chunk c.args.version)) in
+    let fits = at c.args.cat.now c.args.self.now c.args.version c.args.chunk c.loop-update.update-index c.updates_up_to-update-items.result.now numbers c.loop-update-test.true in
     let small = fits.1 in
     let few = c.requires.version in
-    omega (arith, small, few)
+    record { some = fits.0; within = omega (arith, small, few) }
 
 pub returns-clause-added : goal.returns-clause-added
 returns-clause-added c =
