@@ -1,6 +1,6 @@
 -- Which changes concern a chunk. Changes are gone through in order, and the chunk's sources grow with the edges that it is given.
 use Rattle.std.specs.Prelude.{◌≡◌, ℕ, ◌<◌, ◌≤◌, Bool, true, ◌&&◌, ◌==◌, if◌then◌else◌, List, [], ◌∷◌, count_by}
-use Rattle.std.specs.List.{list_any}
+use Rattle.std.specs.List.{filter, list_any}
 use Rattle.gm_base.specs.declared.edge.Edge.{Edge}
 use Rattle.gm_base.specs.Dimensions.{Dimensions, block_of}
 use Rattle.gm_base.specs.Graph.{edge}
@@ -11,6 +11,9 @@ use Rattle.gm_changes.specs.declared.change.Change.TheVariants.{Add, Cut}
 pub record Site : Type 0 where
   pub block : ℕ
   pub is_last : Bool
+
+abbrev pub site_of : ℕ → Bool → Site
+site_of block is_last = record { block = block; is_last = is_last }
 
 abbrev pub lists : List ℕ → ℕ → Bool
 lists sources u = list_any (λ s. s == u) sources
@@ -30,12 +33,12 @@ sources_after [] sources = sources
 sources_after (change ∷ changes) sources = sources_after changes (sources_after_one change sources)
 
 -- those of the changes that concern the chunk
-abbrev pub concerning : Dimensions → Site → List ℕ → List Change → List Change
-concerning d site sources [] = []
-concerning d site sources (change ∷ changes) =
+abbrev pub concerning_changes : Dimensions → Site → List ℕ → List Change → List Change
+concerning_changes d site sources [] = []
+concerning_changes d site sources (change ∷ changes) =
     if concerns d site sources change
-    then change ∷ concerning d site (sources_after_one change sources) changes
-    else concerning d site sources changes
+    then change ∷ concerning_changes d site (sources_after_one change sources) changes
+    else concerning_changes d site sources changes
 
 -- an edge that may stand in a chunk at this site with these sources
 pub record IsPlaced (d : Dimensions) (site : Site) (sources : List ℕ) (e : Edge) : Type 0 where
@@ -55,6 +58,9 @@ is_cut_or_added_here d site (Cut from to) = true
 abbrev pub may_concern : Dimensions → Site → Change → Bool
 may_concern d site (Add e) = takes_adds_of (block_of d e) site
 may_concern d site (Cut from to) = block_of d (edge from to 0) == site.block
+
+abbrev pub possible_changes : Dimensions → Site → List Change → List Change
+possible_changes d site changes = filter (may_concern d site) changes
 
 -- each added edge lies in one of so many blocks
 abbrev pub AddsWithin : Dimensions → ℕ → Change → Type 0

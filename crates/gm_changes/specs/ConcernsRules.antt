@@ -8,25 +8,25 @@ use Rattle.gm_base.specs.Graph.{edge}
 use Rattle.gm_changes.specs.declared.change.Change.{Change}
 use Rattle.gm_changes.specs.declared.change.Change.TheVariants.{Add, Cut}
 use Rattle.gm_changes.specs.Changes.{is_between, edges_after_one, edges_after}
-use Rattle.gm_changes.specs.Concerns.{Site, lists, concerns, sources_after_one, sources_after, concerning, IsPlaced, is_cut_or_added_here, may_concern}
+use Rattle.gm_changes.specs.Concerns.{Site, lists, concerns, sources_after_one, sources_after, concerning_changes, IsPlaced, is_cut_or_added_here, may_concern}
 
 pub sources-parts : (first second : List Change) (sources : List ℕ) → sources_after (first ++ second) sources ≡ sources_after second (sources_after first sources)
 sources-parts [] second sources = refl
 sources-parts (c ∷ first) second sources = sources-parts first second (sources_after_one c sources)
 
-pub concerning-parts : (d : Dimensions) (site : Site) (sources : List ℕ) (first second : List Change)
-    → concerning d site sources (first ++ second)
-    ≡ concerning d site sources first ++ concerning d site (sources_after (concerning d site sources first) sources) second
-concerning-parts d site sources [] second = refl
-concerning-parts d site sources (c ∷ first) second =
+pub concerning_changes-parts : (d : Dimensions) (site : Site) (sources : List ℕ) (first second : List Change)
+    → concerning_changes d site sources (first ++ second)
+    ≡ concerning_changes d site sources first ++ concerning_changes d site (sources_after (concerning_changes d site sources first) sources) second
+concerning_changes-parts d site sources [] second = refl
+concerning_changes-parts d site sources (c ∷ first) second =
     let grown = sources_after_one c sources in
     let goal-at = λ (b : Bool).
-    cond b (c ∷ concerning d site grown (first ++ second)) (concerning d site sources (first ++ second))
-    ≡ cond b (c ∷ concerning d site grown first) (concerning d site sources first)
-    ++ concerning d site (sources_after (cond b (c ∷ concerning d site grown first) (concerning d site sources first)) sources) second in
+    cond b (c ∷ concerning_changes d site grown (first ++ second)) (concerning_changes d site sources (first ++ second))
+    ≡ cond b (c ∷ concerning_changes d site grown first) (concerning_changes d site sources first)
+    ++ concerning_changes d site (sources_after (cond b (c ∷ concerning_changes d site grown first) (concerning_changes d site sources first)) sources) second in
     let at : (b : Bool) → goal-at b = elim [
-      | true ↦ ap (λ cs. c ∷ cs) (concerning-parts d site grown first second)
-      | false ↦ concerning-parts d site sources first second
+      | true ↦ ap (λ cs. c ∷ cs) (concerning_changes-parts d site grown first second)
+      | false ↦ concerning_changes-parts d site sources first second
     ] in
     at (concerns d site sources c)
 
@@ -99,11 +99,11 @@ placed_after_one d site sources (Cut from to) edges placed concerned = All-filte
 
 pub placed_after : (d : Dimensions) (site : Site) (sources : List ℕ) (changes : List Change) (edges : List Edge)
     → AllByRecursion (IsPlaced d site sources) edges
-    → AllByRecursion (IsPlaced d site (sources_after (concerning d site sources changes) sources)) (edges_after (concerning d site sources changes) edges)
+    → AllByRecursion (IsPlaced d site (sources_after (concerning_changes d site sources changes) sources)) (edges_after (concerning_changes d site sources changes) edges)
 placed_after d site sources [] edges placed = placed
 placed_after d site sources (c ∷ changes) edges placed =
     let grown = sources_after_one c sources in
-    let walked = λ (b : Bool). cond b (c ∷ concerning d site grown changes) (concerning d site sources changes) in
+    let walked = λ (b : Bool). cond b (c ∷ concerning_changes d site grown changes) (concerning_changes d site sources changes) in
     let goal-at = λ (b : Bool). AllByRecursion (IsPlaced d site (sources_after (walked b) sources)) (edges_after (walked b) edges) in
     let at : (b : Bool) → concerns d site sources c ≡ b → goal-at b = elim [
       | true ↦ λ h. placed_after d site grown changes (edges_after_one c edges) (placed_after_one d site sources c edges placed h)
@@ -117,13 +117,13 @@ module _ (d : Dimensions) (site : Site) (takes : Change → Bool)
     (cuts : (sources : List ℕ) (from to : ℕ) → concerns d site sources (Cut from to) ≡ true → takes (Cut from to) ≡ true) where
   taken : (sources : List ℕ) (changes : List Change) (edges : List Edge)
       → AllByRecursion (IsPlaced d site sources) edges
-      → edges_after (concerning d site sources changes) edges ≡ edges_after (filter takes changes) edges
+      → edges_after (concerning_changes d site sources changes) edges ≡ edges_after (filter takes changes) edges
   taken sources [] edges placed = refl
   taken sources (Add e ∷ changes) edges placed =
       let c = Add e in
       let grown = sources_after_one c sources in
       let rest = filter takes changes in
-      let goal-at = λ (b t : Bool). edges_after (cond b (c ∷ concerning d site grown changes) (concerning d site sources changes)) edges ≡ edges_after (cond t (c ∷ rest) rest) edges in
+      let goal-at = λ (b t : Bool). edges_after (cond b (c ∷ concerning_changes d site grown changes) (concerning_changes d site sources changes)) edges ≡ edges_after (cond t (c ∷ rest) rest) edges in
       let at : (b : Bool) → concerns d site sources c ≡ b → goal-at b b = elim [
         | true ↦ λ h. taken grown changes (edges_after_one c edges) (placed_after_one d site sources c edges placed h)
         | false ↦ λ h. taken sources changes edges placed
@@ -132,7 +132,7 @@ module _ (d : Dimensions) (site : Site) (takes : Change → Bool)
   taken sources (Cut from to ∷ changes) edges placed =
       let c = Cut from to in
       let rest = filter takes changes in
-      let goal-at = λ (b t : Bool). edges_after (cond b (c ∷ concerning d site sources changes) (concerning d site sources changes)) edges ≡ edges_after (cond t (c ∷ rest) rest) edges in
+      let goal-at = λ (b t : Bool). edges_after (cond b (c ∷ concerning_changes d site sources changes) (concerning_changes d site sources changes)) edges ≡ edges_after (cond t (c ∷ rest) rest) edges in
       let at : (b t : Bool) → concerns d site sources c ≡ b → takes c ≡ t → goal-at b t = elim [
         | true ↦ elim [
           | true ↦ λ h t. taken sources changes (edges_after_one c edges) (placed_after_one d site sources c edges placed h)
@@ -147,12 +147,12 @@ module _ (d : Dimensions) (site : Site) (takes : Change → Bool)
 
 pub left_out : (d : Dimensions) (site : Site) (sources : List ℕ) (changes : List Change) (edges : List Edge)
     → AllByRecursion (IsPlaced d site sources) edges
-    → edges_after (concerning d site sources changes) edges ≡ edges_after (filter (is_cut_or_added_here d site) changes) edges
+    → edges_after (concerning_changes d site sources changes) edges ≡ edges_after (filter (is_cut_or_added_here d site) changes) edges
 left_out d site = taken d site (is_cut_or_added_here d site) (λ sources e. refl) (λ sources from to h. refl)
 
 pub left_out_by_block : (d : Dimensions) (site : Site) (sources : List ℕ) (changes : List Change) (edges : List Edge)
     → AllByRecursion (IsPlaced d site sources) edges
-    → edges_after (concerning d site sources changes) edges ≡ edges_after (filter (may_concern d site) changes) edges
+    → edges_after (concerning_changes d site sources changes) edges ≡ edges_after (filter (may_concern d site) changes) edges
 left_out_by_block d site = taken d site (may_concern d site) (λ sources e. refl) (λ sources from to h. (and_parts _ (lists sources from) h).0)
 
-pub ruleset changes_of_a_chunk = (sources-parts, concerning-parts, cut_elsewhere, placed_after, left_out, left_out_by_block)
+pub ruleset changes_of_a_chunk = (sources-parts, concerning_changes-parts, cut_elsewhere, placed_after, left_out, left_out_by_block)

@@ -9,7 +9,7 @@ use Rattle.gm_base.specs.Graph.{is_same_edge, IsSameGraph}
 use Rattle.gm_changes.specs.declared.change.Change.{Change}
 use Rattle.gm_changes.specs.declared.change.Change.TheVariants.{Add, Cut}
 use Rattle.gm_changes.specs.Changes.{is_between, edges_after}
-use Rattle.gm_changes.specs.Concerns.{Site, concerning, IsPlaced, AddsWithin, takes_adds_of, is_cut_or_added_here, HasOneLastEach}
+use Rattle.gm_changes.specs.Concerns.{Site, concerning_changes, IsPlaced, AddsWithin, takes_adds_of, is_cut_or_added_here, HasOneLastEach}
 use Rattle.gm_base.specs.GraphRules.{same_edge_is, count_of, count_of-append}
 use Rattle.gm_changes.specs.ChangesRules.{same, count_after, left_after, count-edges_after, left_after-add, left_after-none, count_after-add}
 use Rattle.gm_changes.specs.ConcernsRules.{left_out}
@@ -75,7 +75,7 @@ never_added d blocks e (Add x ∷ changes) n within beyond =
 
 module _ (d : Dimensions) (site : ℕ → Site) (sources : ℕ → List ℕ) (base : ℕ → List Edge) (changes : List Change) (e : Edge) where
   abbrev content : ℕ → List Edge
-  content c = edges_after (concerning d (site c) (sources c) changes) (base c)
+  content c = edges_after (concerning_changes d (site c) (sources c) changes) (base c)
 
   abbrev takes : ℕ → Bool
   takes c = takes_adds_of (block_of d e) (site c)
@@ -92,8 +92,6 @@ module _ (d : Dimensions) (site : ℕ → Site) (sources : ℕ → List ℕ) (ba
   all_of zero n = left_after e changes n
   all_of (suc more) n = count_after e changes n
 
-  lasts : List ℕ → ℕ
-  lasts chunks = count_by takes chunks
 
   counts : (chunks : List ℕ) (last : ℕ) → ((c : ℕ) → AllByRecursion (IsPlaced d (site c) (sources c)) (base c))
       → last < 2 → count_by takes chunks ≡ last
@@ -136,11 +134,11 @@ pub joined_over_chunks : (d : Dimensions) (blocks : ℕ) (site : ℕ → Site) (
     → ((c : ℕ) → AllByRecursion (IsPlaced d (site c) (sources c)) (base c))
     → HasOneLastEach blocks site chunks
     → AllByRecursion (AddsWithin d blocks) changes
-    → IsSameGraph (flat_map (λ c. edges_after (concerning d (site c) (sources c) changes) (base c)) chunks) (edges_after changes (flat_map base chunks))
+    → IsSameGraph (flat_map (λ c. edges_after (concerning_changes d (site c) (sources c) changes) (base c)) chunks) (edges_after changes (flat_map base chunks))
 joined_over_chunks d blocks site sources base chunks changes placed one_last within e =
     let n = count_of e (flat_map base chunks) in
     let after = count-edges_after e changes (flat_map base chunks) in
-    elim (cases_lt (block_of d e) blocks) as (λ _. count_of e (flat_map (λ c. edges_after (concerning d (site c) (sources c) changes) (base c)) chunks) ≡ count_of e (edges_after changes (flat_map base chunks))) [
+    elim (cases_lt (block_of d e) blocks) as (λ _. count_of e (flat_map (λ c. edges_after (concerning_changes d (site c) (sources c) changes) (base c)) chunks) ≡ count_of e (edges_after changes (flat_map base chunks))) [
       | inl inside ↦ counts d site sources base changes e chunks 1 placed (omega arith) (one_last.one (block_of d e) inside) ∙ sym after
       | inr beyond ↦
           counts d site sources base changes e chunks 0 placed (omega arith) (one_last.none (block_of d e) beyond)

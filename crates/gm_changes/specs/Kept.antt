@@ -16,8 +16,8 @@ abbrev pub is_cut : List Change → Edge → Bool
 is_cut changes e = list_any (cuts_edge e) changes
 
 -- the edges that none of the changes cuts
-abbrev pub uncut : List Change → List Edge → List Edge
-uncut changes edges = filter (λ e. not (is_cut changes e)) edges
+abbrev pub uncut_edges : List Change → List Edge → List Edge
+uncut_edges changes edges = filter (λ e. not (is_cut changes e)) edges
 
 -- the edges that are added and cut by no later change
 abbrev pub kept_adds : List Change → List Edge

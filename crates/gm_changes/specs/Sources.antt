@@ -9,11 +9,11 @@ use Rattle.gm_changes.specs.declared.cut_sources.CutSources.{CutSources}
 use Rattle.gm_changes.specs.Concerns.{lists}
 
 -- all added edges, and the cuts whose source the chunk has by then
-abbrev pub with_listed_sources : List ℕ → List Change → List Change
-with_listed_sources sources [] = []
-with_listed_sources sources (Add e ∷ changes) = Add e ∷ with_listed_sources (e.from ∷ sources) changes
-with_listed_sources sources (Cut from to ∷ changes) =
-    if lists sources from then Cut from to ∷ with_listed_sources sources changes else with_listed_sources sources changes
+abbrev pub listed_changes : List ℕ → List Change → List Change
+listed_changes sources [] = []
+listed_changes sources (Add e ∷ changes) = Add e ∷ listed_changes (e.from ∷ sources) changes
+listed_changes sources (Cut from to ∷ changes) =
+    if lists sources from then Cut from to ∷ listed_changes sources changes else listed_changes sources changes
 
 -- whether a change cuts edges from this vertex
 abbrev pub cuts_from : ℕ → Change → Bool

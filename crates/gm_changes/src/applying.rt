@@ -4,7 +4,7 @@ ghost use Rattle.std.specs.Prelude.{◌≡◌, ◌+◌, ◌≤◌, ◌∷◌, �
 ghost use Rattle.std.specs.Vec.{vec_len, vec_capacity};
 ghost use Rattle.gm_changes.specs.declared.change.Change.{Change as AnyChange};
 ghost use Rattle.gm_changes.specs.Changes.{edges_after};
-ghost use Rattle.gm_changes.specs.Kept.{uncut, kept_adds, is_add};
+ghost use Rattle.gm_changes.specs.Kept.{uncut_edges, kept_adds, is_add};
 ghost use Rattle.gm_changes.specs.LastCuts.{AreLastCuts};
 
 use crate::Change;
@@ -28,7 +28,8 @@ fn count_adds(changes: &[Change]) -> usize
 
 /// Drops the edges that are cut. Where none is, the edges aren't looked at.
 fn drop_cut(cuts: &LastCuts, edges: &mut Vec<Edge>)
-    ensures items { (changes : List AnyChange) → AreLastCuts changes cuts.now → edges.new.items ≡ uncut changes edges.old.items }
+    ensures items { (changes : List AnyChange) → AreLastCuts changes cuts.now
+        → edges.new.items ≡ uncut_edges changes edges.old.items }
     ensures less { vec_len edges.new ≤ vec_len edges.old }
     ensures room { vec_capacity edges.new ≡ vec_capacity edges.old }
 {
@@ -40,7 +41,8 @@ fn drop_cut(cuts: &LastCuts, edges: &mut Vec<Edge>)
 /// Adds the edge of the change at a place, unless there is none or a later change cuts it.
 fn push_uncut(place: usize, change: &Change, cuts: &LastCuts, edges: &mut Vec<Edge>)
     requires { vec_len edges.old + (if is_add change.now then 1 else 0) ≤ vec_capacity edges.old }
-    ensures items { (changes : List AnyChange) (rest : List AnyChange) → AreLastCuts changes cuts.now → drop place changes ≡ change.now ∷ rest
+    ensures items { (changes : List AnyChange) (rest : List AnyChange) → AreLastCuts changes cuts.now
+        → drop place changes ≡ change.now ∷ rest
         → edges.new.items ++ kept_adds rest ≡ edges.old.items ++ kept_adds (change.now ∷ rest) }
     ensures more { vec_len edges.new ≤ vec_len edges.old + (if is_add change.now then 1 else 0) }
     ensures room { vec_capacity edges.old ≤ vec_capacity edges.new }

@@ -33,7 +33,8 @@ impl CutSources {
 
     /// Notes the source of one more cut.
     fn note(&mut self, change: &Change) -> Result<(), Memory>
-        ensures { OnOk result ((changes : List AnyChange) → TellsSources changes [] self.old → TellsSources (changes ++ change.now ∷ []) [] self.new) }
+        ensures { OnOk result ((changes : List AnyChange) → TellsSources changes [] self.old
+            → TellsSources (changes ++ change.now ∷ []) [] self.new) }
     {
         if let Change::Cut { from, .. } = *change {
             self.listed.insert(from, false)?;
@@ -43,7 +44,8 @@ impl CutSources {
 
     /// The chunk has this source too.
     pub fn add(&mut self, source: u32)
-        ensures { (changes : List AnyChange) (sources : List ℕ) → TellsSources changes sources self.old → TellsSources changes (source ∷ sources) self.new }
+        ensures { (changes : List AnyChange) (sources : List ℕ) → TellsSources changes sources self.old
+            → TellsSources changes (source ∷ sources) self.new }
     {
         if let Some(listed) = self.listed.get_mut(&source) {
             *listed = true;
@@ -52,7 +54,8 @@ impl CutSources {
 
     /// The chunk has these sources.
     pub fn add_all(&mut self, sources: &Sources)
-        ensures { (changes : List AnyChange) → TellsSources changes [] self.old → TellsSources changes sources.now self.new }
+        ensures { (changes : List AnyChange) → TellsSources changes [] self.old
+            → TellsSources changes sources.now self.new }
     {
         if !self.listed.is_empty() {
             for source in sources.as_slice() {
@@ -63,7 +66,8 @@ impl CutSources {
 
     /// Whether the chunk has the source of a cut.
     pub fn has(&self, source: u32) -> bool
-        ensures { (changes : List AnyChange) (sources : List ℕ) → TellsSources changes sources self.now → list_any (cuts_from source) changes ≡ true
+        ensures { (changes : List AnyChange) (sources : List ℕ) → TellsSources changes sources self.now
+            → list_any (cuts_from source) changes ≡ true
             → result ≡ lists sources source }
     {
         match self.listed.get(&source) {

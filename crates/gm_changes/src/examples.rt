@@ -5,15 +5,16 @@ ghost use Rattle.std.specs.Prelude.{◌≡◌, true, false, [], ◌∷◌};
 ghost use Rattle.gm_base.specs.Graph.{edge};
 ghost use Rattle.gm_base.specs.Examples.{path_with_shortcut};
 ghost use Rattle.gm_changes.specs.Changes.{edges_after};
-ghost use Rattle.gm_changes.specs.Concerns.{concerning, may_concern};
+ghost use Rattle.gm_changes.specs.Concerns.{may_concern};
 ghost use Rattle.gm_changes.specs.Kept.{is_cut, kept_adds};
-ghost use Rattle.gm_changes.specs.Examples.{two_ranges, last_of, earlier_of};
+ghost use Rattle.gm_changes.specs.Examples.{two_ranges, last_of, earlier_of, for_last, for_earlier, added_twice};
 
 use crate::Change;
 
 /// One cut takes all edges with its ends, whatever their weights.
 pub fn cut_takes_equal_edges()
-    ensures equal { edges_after (Change.Cut 0 2 ∷ []) (edge 0 2 5 ∷ edge 1 2 1 ∷ edge 0 2 5 ∷ []) ≡ edge 1 2 1 ∷ [] }
+    ensures equal { edges_after (Change.Cut 0 2 ∷ []) (edge 0 2 5 ∷ edge 1 2 1 ∷ edge 0 2 5 ∷ [])
+        ≡ edge 1 2 1 ∷ [] }
     ensures weights { edges_after (Change.Cut 0 2 ∷ []) (edge 0 2 5 ∷ edge 0 2 7 ∷ []) ≡ [] }
     ensures one_way { edges_after (Change.Cut 2 0 ∷ []) (edge 0 2 5 ∷ []) ≡ edge 0 2 5 ∷ [] }
 {}
@@ -22,10 +23,12 @@ pub fn cut_takes_equal_edges()
 pub fn changes_go_in_order()
     ensures cut_then_add { edges_after (Change.Cut 0 1 ∷ Change.Add (edge 0 1 4) ∷ []) path_with_shortcut
         ≡ edge 1 2 1 ∷ edge 0 2 5 ∷ edge 2 3 1 ∷ edge 0 1 4 ∷ [] }
-    ensures add_then_cut { edges_after (Change.Add (edge 0 1 4) ∷ Change.Cut 0 1 ∷ []) path_with_shortcut ≡ edge 1 2 1 ∷ edge 0 2 5 ∷ edge 2 3 1 ∷ [] }
-    ensures add_cut_add { edges_after (Change.Add (edge 3 0 1) ∷ Change.Cut 3 0 ∷ Change.Add (edge 3 0 2) ∷ []) path_with_shortcut
+    ensures add_then_cut { edges_after (Change.Add (edge 0 1 4) ∷ Change.Cut 0 1 ∷ []) path_with_shortcut
+        ≡ edge 1 2 1 ∷ edge 0 2 5 ∷ edge 2 3 1 ∷ [] }
+    ensures add_cut_add { edges_after added_twice path_with_shortcut
         ≡ edge 0 1 1 ∷ edge 1 2 1 ∷ edge 0 2 5 ∷ edge 2 3 1 ∷ edge 3 0 2 ∷ [] }
-    ensures adds { edges_after (Change.Add (edge 3 0 1) ∷ Change.Add (edge 1 0 1) ∷ Change.Add (edge 3 0 1) ∷ []) []
+    ensures adds { let changes = Change.Add (edge 3 0 1) ∷ Change.Add (edge 1 0 1) ∷ Change.Add (edge 3 0 1) ∷ [] in
+        edges_after changes []
         ≡ edge 3 0 1 ∷ edge 1 0 1 ∷ edge 3 0 1 ∷ [] }
 {}
 
@@ -36,32 +39,35 @@ pub fn cut_of_none()
 
 /// The same in one walk: what no change cuts, and the added edges that no later one cuts.
 pub fn kept_of_add_cut_add()
-    ensures cut { is_cut (Change.Add (edge 3 0 1) ∷ Change.Cut 3 0 ∷ Change.Add (edge 3 0 2) ∷ []) (edge 3 0 9) ≡ true }
-    ensures not_cut { is_cut (Change.Add (edge 3 0 1) ∷ Change.Cut 3 0 ∷ Change.Add (edge 3 0 2) ∷ []) (edge 0 3 9) ≡ false }
-    ensures kept { kept_adds (Change.Add (edge 3 0 1) ∷ Change.Cut 3 0 ∷ Change.Add (edge 3 0 2) ∷ []) ≡ edge 3 0 2 ∷ [] }
+    ensures cut { is_cut added_twice (edge 3 0 9) ≡ true }
+    ensures not_cut { is_cut added_twice (edge 0 3 9) ≡ false }
+    ensures kept { kept_adds added_twice ≡ edge 3 0 2 ∷ [] }
 {}
 
 /// An added edge concerns the last chunk of its block alone.
 pub fn add_concerns_the_last_chunk()
-    ensures last { concerning two_ranges (last_of 1) (0 ∷ []) (Change.Add (edge 0 3 1) ∷ []) ≡ Change.Add (edge 0 3 1) ∷ [] }
-    ensures earlier { concerning two_ranges (earlier_of 1) (1 ∷ []) (Change.Add (edge 0 3 1) ∷ []) ≡ [] }
-    ensures other_block { concerning two_ranges (last_of 3) (2 ∷ []) (Change.Add (edge 0 3 1) ∷ []) ≡ [] }
-    ensures empty_chunk { concerning two_ranges (last_of 2) [] (Change.Add (edge 3 0 1) ∷ []) ≡ Change.Add (edge 3 0 1) ∷ [] }
+    ensures last { for_last 1 (0 ∷ []) (Change.Add (edge 0 3 1) ∷ []) ≡ Change.Add (edge 0 3 1) ∷ [] }
+    ensures earlier { for_earlier 1 (1 ∷ []) (Change.Add (edge 0 3 1) ∷ []) ≡ [] }
+    ensures other_block { for_last 3 (2 ∷ []) (Change.Add (edge 0 3 1) ∷ []) ≡ [] }
+    ensures empty_chunk { for_last 2 [] (Change.Add (edge 3 0 1) ∷ [])
+        ≡ Change.Add (edge 3 0 1) ∷ [] }
 {}
 
 /// A cut concerns each chunk of its block that has the source.
 pub fn cut_concerns_chunks_with_its_source()
-    ensures here { concerning two_ranges (earlier_of 1) (1 ∷ []) (Change.Cut 1 3 ∷ []) ≡ Change.Cut 1 3 ∷ [] }
-    ensures no_source { concerning two_ranges (last_of 1) (0 ∷ []) (Change.Cut 1 3 ∷ []) ≡ [] }
-    ensures other_block { concerning two_ranges (last_of 0) (0 ∷ []) (Change.Cut 0 2 ∷ []) ≡ [] }
+    ensures here { for_earlier 1 (1 ∷ []) (Change.Cut 1 3 ∷ []) ≡ Change.Cut 1 3 ∷ [] }
+    ensures no_source { for_last 1 (0 ∷ []) (Change.Cut 1 3 ∷ []) ≡ [] }
+    ensures other_block { for_last 0 (0 ∷ []) (Change.Cut 0 2 ∷ []) ≡ [] }
     ensures by_its_block { may_concern two_ranges (last_of 1) (Change.Cut 1 3) ≡ true }
 {}
 
 /// A source counts from where an edge adds it, and stays.
 pub fn sources_grow_with_added_edges()
-    ensures after_the_add { concerning two_ranges (last_of 1) (0 ∷ []) (Change.Add (edge 1 3 1) ∷ Change.Cut 1 2 ∷ [])
+    ensures after_the_add { for_last 1 (0 ∷ []) (Change.Add (edge 1 3 1) ∷ Change.Cut 1 2 ∷ [])
         ≡ Change.Add (edge 1 3 1) ∷ Change.Cut 1 2 ∷ [] }
-    ensures before_the_add { concerning two_ranges (last_of 1) (0 ∷ []) (Change.Cut 1 2 ∷ Change.Add (edge 1 3 1) ∷ []) ≡ Change.Add (edge 1 3 1) ∷ [] }
-    ensures after_a_cut { concerning two_ranges (last_of 1) (0 ∷ []) (Change.Cut 0 2 ∷ Change.Cut 0 2 ∷ []) ≡ Change.Cut 0 2 ∷ Change.Cut 0 2 ∷ [] }
-    ensures added_elsewhere { concerning two_ranges (earlier_of 1) (0 ∷ []) (Change.Add (edge 1 3 1) ∷ Change.Cut 1 2 ∷ []) ≡ [] }
+    ensures before_the_add { for_last 1 (0 ∷ []) (Change.Cut 1 2 ∷ Change.Add (edge 1 3 1) ∷ [])
+        ≡ Change.Add (edge 1 3 1) ∷ [] }
+    ensures after_a_cut { for_last 1 (0 ∷ []) (Change.Cut 0 2 ∷ Change.Cut 0 2 ∷ [])
+        ≡ Change.Cut 0 2 ∷ Change.Cut 0 2 ∷ [] }
+    ensures added_elsewhere { for_earlier 1 (0 ∷ []) (Change.Add (edge 1 3 1) ∷ Change.Cut 1 2 ∷ []) ≡ [] }
 {}

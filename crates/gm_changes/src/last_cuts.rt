@@ -47,7 +47,8 @@ impl LastCuts {
 
     /// Notes the change that comes next.
     fn add(&mut self, place: usize, change: &Change) -> Result<(), Memory>
-        ensures { OnOk result ((changes : List AnyChange) → length changes ≡ place → HasNoted changes self.old → HasNoted (changes ++ change.now ∷ []) self.new) }
+        ensures { OnOk result ((changes : List AnyChange) → length changes ≡ place
+            → HasNoted changes self.old → HasNoted (changes ++ change.now ∷ []) self.new) }
     {
         if let Change::Cut { from, to } = *change {
             self.marks[mark_of(from, to)] = true;
@@ -75,7 +76,8 @@ impl LastCuts {
 
     /// Whether the change at a place or a later one cuts the edge.
     pub fn cut_from(&self, place: usize, e: &Edge) -> bool
-        ensures { (changes : List AnyChange) → AreLastCuts changes self.now → result ≡ is_cut (drop place changes) e.now }
+        ensures { (changes : List AnyChange) → AreLastCuts changes self.now
+            → result ≡ is_cut (drop place changes) e.now }
     {
         self.marks[mark_of(e.from, e.to)] && self.is_placed_from(place, e)
     }

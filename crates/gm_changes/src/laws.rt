@@ -7,8 +7,8 @@ ghost use Rattle.gm_base.specs.declared.edge.Edge.{Edge};
 ghost use Rattle.gm_base.specs.Dimensions.{Dimensions, block_of};
 ghost use Rattle.gm_base.specs.Graph.{IsSameGraph};
 ghost use Rattle.gm_changes.specs.Changes.{edges_after_one, edges_after};
-ghost use Rattle.gm_changes.specs.Concerns.{Site, concerns, concerning, sources_after, IsPlaced, AddsWithin, takes_adds_of, is_cut_or_added_here, may_concern, HasOneLastEach};
-ghost use Rattle.gm_changes.specs.Kept.{uncut, kept_adds};
+ghost use Rattle.gm_changes.specs.Concerns.{Site, concerns, concerning_changes, sources_after, IsPlaced, AddsWithin, takes_adds_of, is_cut_or_added_here, may_concern, HasOneLastEach};
+ghost use Rattle.gm_changes.specs.Kept.{uncut_edges, kept_adds};
 ghost use Rattle.gm_changes.specs.declared.change.Change.{Change as AnyChange};
 
 use crate::Change;
@@ -20,14 +20,16 @@ pub fn changes_in_parts()
     ensures sources { (first second : List AnyChange) (sources : List ℕ)
         → sources_after (first ++ second) sources ≡ sources_after second (sources_after first sources) }
     ensures concerning { (d : Dimensions) (site : Site) (sources : List ℕ) (first second : List AnyChange)
-        → concerning d site sources (first ++ second)
-        ≡ concerning d site sources first ++ concerning d site (sources_after (concerning d site sources first) sources) second }
+        → concerning_changes d site sources (first ++ second)
+        ≡ concerning_changes d site sources first
+        ++ concerning_changes d site (sources_after (concerning_changes d site sources first) sources) second }
 {}
 
 /// A law: changes can be made in one walk. The edges that none of them cuts stay, and behind them come the added edges that no
 /// later change cuts.
 pub fn changes_in_one_walk()
-    ensures { (changes : List AnyChange) (edges : List Edge) → edges_after changes edges ≡ uncut changes edges ++ kept_adds changes }
+    ensures { (changes : List AnyChange) (edges : List Edge)
+        → edges_after changes edges ≡ uncut_edges changes edges ++ kept_adds changes }
 {}
 
 /// A law: the same graph, changed in the same way, is the same graph.
@@ -48,22 +50,24 @@ pub fn cut_elsewhere_changes_nothing()
 pub fn unconcerning_changes_left_out()
     ensures { (d : Dimensions) (site : Site) (sources : List ℕ) (changes : List AnyChange) (edges : List Edge)
         → AllByRecursion (IsPlaced d site sources) edges
-        → edges_after (concerning d site sources changes) edges ≡ edges_after (filter (is_cut_or_added_here d site) changes) edges }
+        → edges_after (concerning_changes d site sources changes) edges
+        ≡ edges_after (filter (is_cut_or_added_here d site) changes) edges }
 {}
 
 /// A law: the same holds where cuts in other blocks are left out too.
 pub fn changes_in_other_blocks_left_out()
     ensures { (d : Dimensions) (site : Site) (sources : List ℕ) (changes : List AnyChange) (edges : List Edge)
         → AllByRecursion (IsPlaced d site sources) edges
-        → edges_after (concerning d site sources changes) edges ≡ edges_after (filter (may_concern d site) changes) edges }
+        → edges_after (concerning_changes d site sources changes) edges
+        ≡ edges_after (filter (may_concern d site) changes) edges }
 {}
 
 /// A law: a chunk's edges stay in its block, with their sources listed.
 pub fn edges_in_place_after_changes()
     ensures { (d : Dimensions) (site : Site) (sources : List ℕ) (changes : List AnyChange) (edges : List Edge)
         → AllByRecursion (IsPlaced d site sources) edges
-        → AllByRecursion (IsPlaced d site (sources_after (concerning d site sources changes) sources))
-        (edges_after (concerning d site sources changes) edges) }
+        → AllByRecursion (IsPlaced d site (sources_after (concerning_changes d site sources changes) sources))
+        (edges_after (concerning_changes d site sources changes) edges) }
 {}
 
 /// A law: where each block has one last chunk, an added edge concerns exactly one chunk.
@@ -80,6 +84,6 @@ pub fn changes_joined_over_chunks()
         → ((c : ℕ) → AllByRecursion (IsPlaced d (site c) (sources c)) (base c))
         → HasOneLastEach blocks site chunks
         → AllByRecursion (AddsWithin d blocks) changes
-        → IsSameGraph (flat_map (λ c. edges_after (concerning d (site c) (sources c) changes) (base c)) chunks)
-        (edges_after changes (flat_map base chunks)) }
+        → let content = λ (c : ℕ). edges_after (concerning_changes d (site c) (sources c) changes) (base c) in
+        IsSameGraph (flat_map content chunks) (edges_after changes (flat_map base chunks)) }
 {}

@@ -87,7 +87,7 @@ fn changes_of_a_chunk_are_found(rt: HostRuntime) -> Result<(), Fail> {
 #[test]
 fn changes_of_two_updates_are_gathered(rt: HostRuntime) -> Result<(), Fail> {
     let shape = Shape::new(4, 2).ok_or("a shape")?;
-    let mut near = Changes::new(rt.alloc());
+    let mut near = Vec::new(rt.alloc());
     gather(&[add(0, 3, 1), add(3, 0, 1)], &shape, 1, true, &mut near)?;
     gather(&[cut(1, 3), cut(2, 3)], &shape, 1, true, &mut near)?;
     assert_eq!(rt; near.as_slice(), [add(0, 3, 1), cut(1, 3)].as_slice());

@@ -20,10 +20,12 @@ use gm_work::laws::{begins, determined, owed_chunks, passes, turns, weight_is_le
 /// A law: what a job sees of a grid's chunks is its view of the graph, cut into them. So it is for each job of a script.
 pub fn views_are_cut()
     ensures view { (spec : Spec) (cat : Catalogue) (edges : List Edge) (s : Snapshot)
-        → AreDimensions cat.dimensions.n cat.dimensions.parts → IsGraph cat.dimensions.n edges → length edges ≤ MAX_EDGES
-        → IsOver cat edges → IsSnapshotOver cat.dimensions.n s → IsCutIntoChunks (snapshot_view spec cat edges s) }
+        → AreDimensions cat.dimensions.n cat.dimensions.parts → IsGraph cat.dimensions.n edges
+        → length edges ≤ MAX_EDGES → IsOver cat edges → IsSnapshotOver cat.dimensions.n s
+        → IsCutIntoChunks (snapshot_view spec cat edges s) }
     ensures job { (cat : Catalogue) (edges : List Edge) (entries : List Line) (n : ℕ)
-        → IsScriptOverGrid cat edges entries → n < length (jobs_of entries) → IsCutIntoChunks (job_view cat edges entries n) }
+        → IsScriptOverGrid cat edges entries → n < length (jobs_of entries)
+        → IsCutIntoChunks (job_view cat edges entries n) }
 {}
 
 /// A law: all jobs of a script over a grid keep the laws by which they can be run in lockstep.

@@ -17,7 +17,7 @@ use Rattle.gm_versions.specs.Kept.{IsCopy}
 use Rattle.gm_versions.specs.Contents.{site_at, changes_at, next_changes_at, changes_up_to, all_changes, changes_near, is_some_change, last_update}
 use Rattle.gm_versions.specs.Snapshots.{Snapshot, changes_of, key_of}
 use Rattle.gm_versions.specs.Keys.{IsTakenFrom, IsVersionKey, content_of_key, update_of}
-use Rattle.gm_versions.specs.ContentsRules.{all-taken, base-placed, changes-taken, concerning-near, concerning-same_before, concerning-up_to_last, without_second, last-le}
+use Rattle.gm_versions.specs.ContentsRules.{all-taken, base-placed, changes-taken, concerning_changes-near, concerning_changes-same_before, concerning_changes-up_to_last, without_second, last-le}
 use Rattle.gm_versions.specs.SnapshotsRules.{content-of_key}
 use Rattle.gm_private.specs.OwnChanges.{OwnChanges, IsSnapshotCopy, snapshot_in}
 
@@ -61,7 +61,7 @@ version_copy cat versions own c t edges key copy few is tag made =
     let same : changes_at cat c (changes_up_to updates (update_of key.tag)) ≡ changes_at cat c (changes_of s) =
     ap (λ (k : Key). changes_at cat c (changes_up_to updates (update_of k.tag))) of.is
     ∙ ap (changes_at cat c) (sym (changes-taken updates own.version last (omega (arith, small, long))))
-    ∙ concerning-up_to_last cat s.updates c (length s.updates)
+    ∙ concerning_changes-up_to_last cat s.updates c (length s.updates)
     ∙ sym (without_second cat c (all_changes s.updates) s.own of.none) in
     record {
       of_key = made.of_key;
@@ -81,7 +81,7 @@ own_placed cat updates own c edges few placed =
     let near = changes_near cat updates c own.version in
     sym (left_out_by_block d site (sources_at cat c) (near ++ own.changes) edges (recursion_from_All (IsPlaced d site (sources_at cat c)) edges placed))
     ∙ ap (λ (cs : List Change). edges_after cs edges)
-    (concerning-same_before cat c near (changes_up_to updates own.version) own.changes (concerning-near cat updates c own.version)
+    (concerning_changes-same_before cat c near (changes_up_to updates own.version) own.changes (concerning_changes-near cat updates c own.version)
     ∙ ap (λ (cs : List Change). changes_at cat c (cs ++ own.changes)) (sym (all-taken updates own.version few)))
 
 -- the copy of the job's own key

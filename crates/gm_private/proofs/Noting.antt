@@ -12,10 +12,6 @@ abbrev pub or_else : Option SeenChunk → Option SeenChunk → Option SeenChunk
 or_else None other = other
 or_else (Some seen) other = Some seen
 
-pub or_none : (seen : Option SeenChunk) → or_else seen None ≡ seen
-or_none None = refl
-or_none (Some seen) = refl
-
 absent : (low c : ℕ) (overlays : List Overlay) → c < low → AscendByChunk low overlays → seen_among overlays c ≡ None
 absent low c [] below ascend = refl
 absent low c (o ∷ overlays) below ascend =

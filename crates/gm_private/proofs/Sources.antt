@@ -5,7 +5,7 @@ use Rattle.gm_base.specs.declared.copies.Tag.TheVariants.{Own}
 use Rattle.gm_base.specs.Dimensions.{Dimensions}
 use Rattle.gm_changes.specs.declared.change.Change.{Change}
 use Rattle.gm_changes.specs.declared.change.Change.TheVariants.{Add, Cut}
-use Rattle.gm_changes.specs.Concerns.{Site, concerns, concerning, sources_after_one}
+use Rattle.gm_changes.specs.Concerns.{Site, concerns, concerning_changes, sources_after_one}
 use Rattle.gm_label.specs.Catalogues.{Catalogue}
 use Rattle.gm_versions.specs.Contents.{site_at, sources_at_after, next_changes_at, added_sources, changes_up_to, is_some_change}
 use Rattle.gm_versions.specs.ContentsRules.{added_sources-append, none_is}
@@ -15,19 +15,19 @@ use Rattle.gm_private.specs.SeenChunks.{with_own, after_own}
 
 -- a cut adds nothing, whether it concerns the chunk or not
 cut_adds_nothing : (d : Dimensions) (site : Site) (sources : List ℕ) (from to : ℕ) (changes : List Change)
-    → added_sources (concerning d site sources (Cut from to ∷ changes)) ≡ added_sources (concerning d site sources changes)
+    → added_sources (concerning_changes d site sources (Cut from to ∷ changes)) ≡ added_sources (concerning_changes d site sources changes)
 cut_adds_nothing d site sources from to changes =
-    let later = concerning d site sources changes in
+    let later = concerning_changes d site sources changes in
     let at : (b : Bool) → added_sources (cond b (Cut from to ∷ later) later) ≡ added_sources later = elim [ true ↦ refl | false ↦ refl ] in
     at (concerns d site sources (Cut from to))
 
 -- whatever the chunk's sources are, the same edges are added
 pub added-same : (d : Dimensions) (site : Site) (s t : List ℕ) (changes : List Change)
-    → added_sources (concerning d site s changes) ≡ added_sources (concerning d site t changes)
+    → added_sources (concerning_changes d site s changes) ≡ added_sources (concerning_changes d site t changes)
 added-same d site s t [] = refl
 added-same d site s t (Add e ∷ changes) =
-    let at : (b : Bool) → added_sources (cond b (Add e ∷ concerning d site (e.from ∷ s) changes) (concerning d site s changes))
-    ≡ added_sources (cond b (Add e ∷ concerning d site (e.from ∷ t) changes) (concerning d site t changes)) = elim [
+    let at : (b : Bool) → added_sources (cond b (Add e ∷ concerning_changes d site (e.from ∷ s) changes) (concerning_changes d site s changes))
+    ≡ added_sources (cond b (Add e ∷ concerning_changes d site (e.from ∷ t) changes) (concerning_changes d site t changes)) = elim [
       | true ↦ ap (λ (ss : List ℕ). e.from ∷ ss) (added-same d site (e.from ∷ s) (e.from ∷ t) changes)
       | false ↦ added-same d site s t changes
     ] in
@@ -56,8 +56,8 @@ fold-own cat updates own c before (change ∷ changes) =
     let d = cat.dimensions in
     let site = site_at cat c in
     let sources = sources_at_after cat c (changes_up_to updates own.version) in
-    let later = concerning d site sources changes in
-    let further = concerning d site (sources_after_one change sources) changes in
+    let later = concerning_changes d site sources changes in
+    let further = concerning_changes d site (sources_after_one change sources) changes in
     let one = λ (added : List ℕ). let seen : SeenChunk = record { tag = Own own.job; added = added } in Some seen in
     let here = added_sources (change ∷ []) in
     let noted : SeenChunk = with_own own.job here before in

@@ -5,7 +5,7 @@ ghost use Rattle.std.specs.List.{filter, list_any};
 ghost use Rattle.gm_changes.specs.Changes.{edges_after};
 ghost use Rattle.gm_changes.specs.Concerns.{concerns, may_concern};
 ghost use Rattle.gm_label.specs.Overlays.{AreOverlays};
-ghost use Rattle.gm_versions.specs.Contents.{site_at, sources_at_after, changes_up_to, changes_near};
+ghost use Rattle.gm_versions.specs.Contents.{concerns_next, possible_changes_at, changes_up_to, changes_near};
 ghost use Rattle.gm_versions.specs.Snapshots.{key_of, overlays_of};
 ghost use Rattle.gm_private.specs.OwnChanges.{snapshot_in, IsOwnOver, IsSnapshotCopy};
 
@@ -43,7 +43,8 @@ impl Own {
     fn concerns(&self, cat: &Catalogue, versions: &Versions, chunk: u32) -> bool
         requires over { IsOwnOver cat.now versions.now self.now }
         requires chunk { chunk < length cat.now.places }
-        ensures { result ≡ list_any (concerns cat.now.dimensions (site_at cat.now chunk) (sources_at_after cat.now chunk (changes_up_to versions.now.batches self.now.version))) self.now.changes }
+        ensures { let before = changes_up_to versions.now.batches self.now.version in
+            result ≡ list_any (concerns_next cat.now chunk before) self.now.changes }
     {
         for change in self.changes.as_slice() {
             if versions.concerns(cat, self.version, chunk, *change) {
@@ -83,7 +84,8 @@ impl Own {
         versions: &Versions,
     ) -> Result<Overlays, Memory>
         requires over { IsOwnOver cat.now versions.now self.now }
-        ensures value { IfOk result (λ overlays. overlays ≡ overlays_of cat.now (snapshot_in versions.now.batches self.now)) }
+        ensures value { let s = snapshot_in versions.now.batches self.now in
+            IfOk result (λ overlays. overlays ≡ overlays_of cat.now s) }
         ensures fit { IfOk result (AreOverlays cat.now) }
     {
         let shared = versions.overlays(alloc, cat, self.version)?;
@@ -106,12 +108,14 @@ impl Own {
     ) -> Result<(), Memory>
         requires over { IsOwnOver cat.now versions.now self.now }
         requires chunk { chunk < length cat.now.places }
-        ensures { OnOk result (edges.new ≡ edges_after (filter (may_concern cat.now.dimensions (site_at cat.now chunk)) (changes_near cat.now versions.now.batches chunk self.now.version ++ self.now.changes)) edges.old) }
+        ensures { let near = changes_near cat.now versions.now.batches chunk self.now.version in
+            let possible = possible_changes_at cat.now chunk (near ++ self.now.changes) in
+            OnOk result (edges.new ≡ edges_after possible edges.old) }
     {
         let block = cat.chunk(chunk).block;
         let last = cat.is_last(chunk);
         let own = self.changes.as_slice();
-        let mut near = Changes::new(alloc);
+        let mut near = Vec::new(alloc);
         versions.gather(cat, self.version, chunk, &mut near)?;
         gather(own, cat.shape(), block, last, &mut near)?;
         apply(alloc, near.as_slice(), edges)
@@ -129,7 +133,8 @@ impl Own {
         requires over { IsOwnOver cat.now versions.now self.now }
         requires chunk { raw.chunk < length cat.now.places }
         requires key { key ≡ key_of cat.now (snapshot_in versions.now.batches self.now) raw.chunk }
-        ensures { IfOk result (IsSnapshotCopy cat.now (snapshot_in versions.now.batches self.now) raw.chunk raw.edges key) }
+        ensures { let s = snapshot_in versions.now.batches self.now in
+            IfOk result (IsSnapshotCopy cat.now s raw.chunk raw.edges key) }
     {
         match key.tag {
             Tag::Update(_) => versions.into_copy(alloc, cat, raw, key),
@@ -153,7 +158,8 @@ impl Own {
         requires over { IsOwnOver cat.now versions.now self.now }
         requires chunk { raw.now.chunk < length cat.now.places }
         requires key { key ≡ key_of cat.now (snapshot_in versions.now.batches self.now) raw.now.chunk }
-        ensures { IfOk result (IsSnapshotCopy cat.now (snapshot_in versions.now.batches self.now) raw.now.chunk raw.now.edges key) }
+        ensures { let s = snapshot_in versions.now.batches self.now in
+            IfOk result (IsSnapshotCopy cat.now s raw.now.chunk raw.now.edges key) }
     {
         let edges = Vec::from_slice(alloc, raw.edges.as_slice())?;
         let copied = Raw {

@@ -5,7 +5,6 @@ ghost use Rattle.std.specs.Ordering.{nat_cmp};
 ghost use Rattle.std.specs.BTreeMap.{IsOrdered};
 ghost use Rattle.gm_changes.specs.Changes.{ChangesWithin};
 ghost use Rattle.gm_label.specs.Overlays.{AscendByChunk};
-ghost use Rattle.gm_versions.specs.Contents.{added_sources};
 ghost use Rattle.gm_versions.specs.WalksRules.{told_in};
 ghost use Rattle.gm_private.specs.OwnChanges.{IsOwnOver};
 ghost use Rattle.gm_private.specs.SeenChunks.{seen_at, seen_among, overlay_with, with_own, after_own, AreNoted};
@@ -14,7 +13,7 @@ use crate::own::Own;
 use gm_base::{Key, Memory, Sources, Tag};
 use gm_changes::Change;
 use gm_label::{Catalogue, Overlay, Overlays};
-use gm_versions::{Versions, reach};
+use gm_versions::{Versions, added_source, reach};
 use std::alloc::Global;
 use std::collections::BTreeMap;
 
@@ -30,16 +29,6 @@ pub(crate) struct SeenChunk {
 pub(crate) struct SeenChunks {
     alloc: Global,
     chunks: BTreeMap<u32, SeenChunk>,
-}
-
-/// The source of an edge that a change adds.
-fn added_source(change: Change) -> Option<u32>
-    ensures { option_to_list result ≡ added_sources (change ∷ []) }
-{
-    match change {
-        Change::Add(edge) => Some(edge.from),
-        Change::Cut { .. } => None,
-    }
 }
 
 /// The job's tag takes the place of the chunk's, and a source that is added goes behind the others.
@@ -87,7 +76,8 @@ impl SeenChunks {
 
     /// Notes that a change of a job's own concerns a chunk, and which source it adds there.
     fn put(&mut self, chunk: u32, job: u32, added: Option<u32>) -> Result<(), Memory>
-        ensures { OnOk result ((c : ℕ) → seen_at self.new c ≡ (if c == chunk then Some (with_own job (option_to_list added) (seen_at self.old c)) else seen_at self.old c)) }
+        ensures { OnOk result ((c : ℕ) → seen_at self.new c
+            ≡ (if c == chunk then Some (with_own job (option_to_list added) (seen_at self.old c)) else seen_at self.old c)) }
     {
         match self.chunks.get_mut(&chunk) {
             Some(seen) => make_own(seen, job, added),
@@ -111,7 +101,9 @@ impl SeenChunks {
         requires over { IsOwnOver cat.now versions.now own.now }
         requires chunk { chunk < length cat.now.places }
         requires ends { ChangesWithin cat.now.dimensions.n change }
-        ensures { OnOk result ((c : ℕ) → seen_at self.new c ≡ (if c == chunk then after_own cat.now versions.now.batches own.now c (seen_at self.old c) change else seen_at self.old c)) }
+        ensures { let updates = versions.now.batches in
+            OnOk result ((c : ℕ) → seen_at self.new c
+            ≡ (if c == chunk then after_own cat.now updates own.now c (seen_at self.old c) change else seen_at self.old c)) }
     {
         if versions.concerns(cat, own.version(), chunk, change) {
             self.put(chunk, own.job(), added_source(change))?;
@@ -129,7 +121,8 @@ impl SeenChunks {
     ) -> Result<(), Memory>
         requires over { IsOwnOver cat.now versions.now own.now }
         requires ends { ChangesWithin cat.now.dimensions.n change }
-        ensures { OnOk result (AreNoted cat.now versions.now.batches own.now (change ∷ []) self.old self.new) }
+        ensures { let updates = versions.now.batches in
+            OnOk result (AreNoted cat.now updates own.now (change ∷ []) self.old self.new) }
     {
         let reached = reach(cat, change);
         for chunk in reached.start..reached.end {
@@ -158,7 +151,8 @@ impl SeenChunks {
 
     /// The overlays of the chunks, ascending.
     pub(crate) fn into_overlays(self, alloc: Global) -> Result<Overlays, Memory>
-        ensures value { IfOk result (λ overlays. overlays ≡ told_in (λ c seen. overlay_with c seen ∷ []) self.chunks.entries) }
+        ensures value { let told = told_in (λ c seen. overlay_with c seen ∷ []) self.chunks.entries in
+            IfOk result (λ overlays. overlays ≡ told) }
         ensures ordered { IsOrdered nat_cmp self.chunks }
     {
         let mut overlays = Overlays::new(alloc);

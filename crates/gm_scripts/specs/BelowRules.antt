@@ -1,5 +1,5 @@
 -- What proofs need of scripts that are gone through entry by entry: what holds of the entries that are left, and of the updates above them.
-use Rattle.std.specs.Prelude.{ℕ, ◌+◌, ◌<◌, ◌≤◌, List, [], ◌∷◌, ◌++◌, length, All}
+use Rattle.std.specs.Prelude.{ℕ, ◌+◌, ◌≤◌, List, [], ◌∷◌, ◌++◌, length, All}
 use Rattle.std.proofs.Common.{sym, ap, subst, arith}
 use Rattle.std.proofs.lemmas.List.{length-append, length_push}
 use Rattle.std.proofs.lemmas.List.Elements.{All-append, All-cons, All-head, All-nil, All-tail}
@@ -69,17 +69,6 @@ below_update n number above batch rest below =
       ends = subst (All (ChangesWithin n)) (sym (all-pushed above batch))
           (All-append (ChangesWithin n) (all_changes above) batch below.ends (All-head (IsLineOver n) (Update batch) rest below.lines));
     }
-
-pub update_ends : (n number : ℕ) (above : List (List Change)) (batch : List Change) (rest : List Line)
-    → AreBelow n number above (Update batch ∷ rest) → All (ChangesWithin n) batch
-update_ends n number above batch rest below = All-head (IsLineOver n) (Update batch) rest below.lines
-
-pub few_updates : (n number : ℕ) (above : List (List Change)) (batch : List Change) (rest : List Line)
-    → AreBelow n number above (Update batch ∷ rest) → length above < MAX_CHANGES
-few_updates n number above batch rest below =
-    let changes = below.changes in
-    let counted = sum_by-cons change_lines_in (Update batch) rest in
-    omega (arith, changes, counted)
 
 pub below_wait : (n number : ℕ) (above : List (List Change)) (visits : ℕ) (rest : List Line)
     → AreBelow n number above (Wait visits ∷ rest) → AreBelow n number above rest

@@ -14,8 +14,10 @@ pub fn edges_of_two_jobs()
 
 /// Of the chunk that held the shortcut the first job has a key of its own, and the second job that of the update. All others are the grid's.
 pub fn keys_of_two_jobs()
-    ensures first { tags_on_path 0 ≡ Tag.Update 0 ∷ Tag.Update 0 ∷ Tag.Own 0 ∷ Tag.Update 0 ∷ Tag.Update 0 ∷ [] }
-    ensures second { tags_on_path 1 ≡ Tag.Update 0 ∷ Tag.Update 0 ∷ Tag.Update 1 ∷ Tag.Update 0 ∷ Tag.Update 0 ∷ [] }
+    ensures first { tags_on_path 0
+        ≡ Tag.Update 0 ∷ Tag.Update 0 ∷ Tag.Own 0 ∷ Tag.Update 0 ∷ Tag.Update 0 ∷ [] }
+    ensures second { tags_on_path 1
+        ≡ Tag.Update 0 ∷ Tag.Update 0 ∷ Tag.Update 1 ∷ Tag.Update 0 ∷ Tag.Update 0 ∷ [] }
 {}
 
 /// The chunk without the first job's shortcut, with the update's edge, and as it is in the grid.

@@ -29,7 +29,8 @@ pub fn jobs_see_vertices()
 /// A law: of all updates of a script a job sees those above its line. The updates are these and then others.
 pub fn updates_above_suffice()
     ensures parts { (entries : List Line) (n : ℕ)
-        → updates_of entries ≡ (job_at entries n).above ++ drop (length (job_at entries n).above) (updates_of entries) }
+        → let above = (job_at entries n).above in updates_of entries
+        ≡ above ++ drop (length above) (updates_of entries) }
     ensures taken { (entries : List Line) (n : ℕ) → n < length (jobs_of entries)
         → IsTakenFrom (updates_of entries) (snapshot_at entries) (snapshot_at entries n) }
 {}
@@ -39,11 +40,15 @@ pub fn updates_above_suffice()
 pub fn contents_of_scripts()
     ensures joined { (cat : Catalogue) (edges : List Edge) (entries : List Line) (n : ℕ)
         → IsScriptOverGrid cat edges entries → n < length (jobs_of entries)
-        → IsSameGraph (flat_map (λ c. content_in_script cat edges entries (job_key cat entries n c)) (chunk_numbers cat))
+        → let content = content_in_script cat edges entries in
+        IsSameGraph (flat_map (λ c. content (job_key cat entries n c)) (chunk_numbers cat))
         (edges_of edges (snapshot_at entries n)) }
-    ensures content { (cat : Catalogue) (edges : List Edge) (entries : List Line) (n c : ℕ) → n < length (jobs_of entries)
-        → content_in_script cat edges entries (job_key cat entries n c) ≡ content_of cat edges (snapshot_at entries n) c }
+    ensures content { (cat : Catalogue) (edges : List Edge) (entries : List Line) (n c : ℕ)
+        → n < length (jobs_of entries)
+        → content_in_script cat edges entries (job_key cat entries n c)
+        ≡ content_of cat edges (snapshot_at entries n) c }
     ensures shared { (cat : Catalogue) (edges : List Edge) (entries : List Line) (n m c : ℕ)
-        → n < length (jobs_of entries) → m < length (jobs_of entries) → job_key cat entries n c ≡ job_key cat entries m c
+        → n < length (jobs_of entries) → m < length (jobs_of entries)
+        → job_key cat entries n c ≡ job_key cat entries m c
         → content_of cat edges (snapshot_at entries n) c ≡ content_of cat edges (snapshot_at entries m) c }
 {}

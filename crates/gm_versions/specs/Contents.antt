@@ -4,7 +4,7 @@ use Rattle.gm_base.specs.declared.edge.Edge.{Edge}
 use Rattle.gm_changes.specs.declared.change.Change.{Change}
 use Rattle.gm_changes.specs.declared.change.Change.TheVariants.{Add, Cut}
 use Rattle.gm_changes.specs.Changes.{edges_after}
-use Rattle.gm_changes.specs.Concerns.{Site, sources_after, concerning}
+use Rattle.gm_changes.specs.Concerns.{Site, concerns, possible_changes, sources_after, concerning_changes}
 use Rattle.gm_label.specs.Catalogues.{Catalogue, place_at, sources_at, base_at}
 
 -- where a chunk stands
@@ -13,7 +13,7 @@ site_at cat c = record { block = (place_at cat c).block; is_last = (place_at cat
 
 -- those of the changes that concern a chunk
 abbrev pub changes_at : Catalogue → ℕ → List Change → List Change
-changes_at cat c changes = concerning cat.dimensions (site_at cat c) (sources_at cat c) changes
+changes_at cat c changes = concerning_changes cat.dimensions (site_at cat c) (sources_at cat c) changes
 
 -- a chunk's sources after changes: none is ever taken away, so they bound those of its edges
 abbrev pub sources_at_after : Catalogue → ℕ → List Change → List ℕ
@@ -21,7 +21,15 @@ sources_at_after cat c changes = sources_after (changes_at cat c changes) (sourc
 
 -- those of further changes that concern the chunk
 abbrev pub next_changes_at : Catalogue → ℕ → List Change → List Change → List Change
-next_changes_at cat c before next = concerning cat.dimensions (site_at cat c) (sources_at_after cat c before) next
+next_changes_at cat c before next = concerning_changes cat.dimensions (site_at cat c) (sources_at_after cat c before) next
+
+-- whether a change that comes next concerns the chunk
+abbrev pub concerns_next : Catalogue → ℕ → List Change → Change → Bool
+concerns_next cat c before change = concerns cat.dimensions (site_at cat c) (sources_at_after cat c before) change
+
+-- those of the changes that may concern the chunk, whatever its sources are
+abbrev pub possible_changes_at : Catalogue → ℕ → List Change → List Change
+possible_changes_at cat c changes = possible_changes cat.dimensions (site_at cat c) changes
 
 -- a chunk's edges after changes
 abbrev pub content_after : Catalogue → List Edge → List Change → ℕ → List Edge

@@ -10,8 +10,8 @@ use Rattle.gm_base.specs.Graph.{IsSameGraph, HasEndsBelow, IsGraph}
 use Rattle.gm_changes.specs.declared.change.Change.{Change}
 use Rattle.gm_changes.specs.declared.change.Change.TheVariants.{Add, Cut}
 use Rattle.gm_changes.specs.Changes.{ChangesWithin, is_between, edges_after_one, edges_after}
-use Rattle.gm_changes.specs.Concerns.{Site, lists, concerns, concerning, sources_after, sources_after_one, IsPlaced, AddsWithin}
-use Rattle.gm_changes.specs.ConcernsRules.{concerning-parts, placed_after}
+use Rattle.gm_changes.specs.Concerns.{Site, lists, concerns, concerning_changes, sources_after, sources_after_one, IsPlaced, AddsWithin}
+use Rattle.gm_changes.specs.ConcernsRules.{concerning_changes-parts, placed_after}
 use Rattle.gm_changes.specs.JoinedRules.{joined_over_chunks}
 use Rattle.std.proofs.Math.Seq.{take-append_seam}
 use Rattle.std.proofs.lemmas.List.{get_or_past, get_or-take, length-take-le, length_push, get_or_push}
@@ -67,11 +67,11 @@ none-later cat updates c (suc version) t last less =
     ]
 
 some_of : (d : Dimensions) (site : Site) (sources : List ℕ) (changes : List Change)
-    → is_some_change (concerning d site sources changes) ≡ list_any (concerns d site sources) changes
+    → is_some_change (concerning_changes d site sources changes) ≡ list_any (concerns d site sources) changes
 some_of d site sources [] = refl
 some_of d site sources (c ∷ changes) =
     let goal-at = λ (b : Bool).
-    is_some_change (cond b (c ∷ concerning d site (sources_after_one c sources) changes) (concerning d site sources changes))
+    is_some_change (cond b (c ∷ concerning_changes d site (sources_after_one c sources) changes) (concerning_changes d site sources changes))
     ≡ (b || list_any (concerns d site sources) changes) in
     let at : (b : Bool) → goal-at b = elim [ true ↦ refl | false ↦ some_of d site sources changes ] in
     at (concerns d site sources c)
@@ -79,7 +79,7 @@ some_of d site sources (c ∷ changes) =
 -- changes in two parts
 pub in_parts : (cat : Catalogue) (c : ℕ) (first second : List Change)
     → changes_at cat c (first ++ second) ≡ changes_at cat c first ++ next_changes_at cat c first second
-in_parts cat c first second = concerning-parts cat.dimensions (site_at cat c) (sources_at cat c) first second
+in_parts cat c first second = concerning_changes-parts cat.dimensions (site_at cat c) (sources_at cat c) first second
 
 pub added_sources-append : (xs ys : List Change) → added_sources (xs ++ ys) ≡ added_sources xs ++ added_sources ys
 added_sources-append [] ys = refl
@@ -92,9 +92,9 @@ added-in_parts cat c first second =
     ap added_sources (in_parts cat c first second) ∙ added_sources-append (changes_at cat c first) (next_changes_at cat c first second)
 
 -- the first change that concerns a chunk is met with the sources from before all of them
-pub some-concerning : (cat : Catalogue) (c : ℕ) (before changes : List Change)
+pub some-concerning_changes : (cat : Catalogue) (c : ℕ) (before changes : List Change)
     → is_some_change (next_changes_at cat c before changes) ≡ list_any (concerns cat.dimensions (site_at cat c) (sources_at_after cat c before)) changes
-some-concerning cat c before changes = some_of cat.dimensions (site_at cat c) (sources_at_after cat c before) changes
+some-concerning_changes cat c before changes = some_of cat.dimensions (site_at cat c) (sources_at_after cat c before) changes
 
 -- the second part doesn't concern the chunk
 pub without_second : (cat : Catalogue) (c : ℕ) (first second : List Change) → is_some_change (next_changes_at cat c first second) ≡ false
@@ -103,38 +103,38 @@ without_second cat c first second none =
     in_parts cat c first second ∙ ap (λ cs. changes_at cat c first ++ cs) (none_is _ none) ∙ append-nil (changes_at cat c first)
 
 -- where the same of the changes before concern the chunk, the same do with further changes
-pub concerning-same_before : (cat : Catalogue) (c : ℕ) (before other next : List Change) → changes_at cat c before ≡ changes_at cat c other
+pub concerning_changes-same_before : (cat : Catalogue) (c : ℕ) (before other next : List Change) → changes_at cat c before ≡ changes_at cat c other
     → changes_at cat c (before ++ next) ≡ changes_at cat c (other ++ next)
-concerning-same_before cat c before other next same =
+concerning_changes-same_before cat c before other next same =
     in_parts cat c before next
-    ∙ ap (λ (cs : List Change). cs ++ concerning cat.dimensions (site_at cat c) (sources_after cs (sources_at cat c)) next) same
+    ∙ ap (λ (cs : List Change). cs ++ concerning_changes cat.dimensions (site_at cat c) (sources_after cs (sources_at cat c)) next) same
     ∙ sym (in_parts cat c other next)
 
-pub concerning-up_to_last : (cat : Catalogue) (updates : List (List Change)) (c version : ℕ)
+pub concerning_changes-up_to_last : (cat : Catalogue) (updates : List (List Change)) (c version : ℕ)
     → changes_at cat c (changes_up_to updates (last_update cat updates c version)) ≡ changes_at cat c (changes_up_to updates version)
-concerning-up_to_last cat updates c zero = refl
-concerning-up_to_last cat updates c (suc version) =
+concerning_changes-up_to_last cat updates c zero = refl
+concerning_changes-up_to_last cat updates c (suc version) =
     let some = is_some_change (update_changes_at cat updates c version) in
     let at : (b : Bool) → some ≡ b
     → changes_at cat c (changes_up_to updates (cond b (suc version) (last_update cat updates c version))) ≡ changes_at cat c (changes_up_to updates (suc version)) = elim [
       | true ↦ λ so. refl
       | false ↦ λ none.
-          concerning-up_to_last cat updates c version ∙ sym (without_second cat c (changes_up_to updates version) (update_at updates version) none)
+          concerning_changes-up_to_last cat updates c version ∙ sym (without_second cat c (changes_up_to updates version) (update_at updates version) none)
     ] in
     at some refl
 
 -- of the updates up to a version those that concern the chunk suffice
-pub concerning-near : (cat : Catalogue) (updates : List (List Change)) (c version : ℕ)
+pub concerning_changes-near : (cat : Catalogue) (updates : List (List Change)) (c version : ℕ)
     → changes_at cat c (changes_near cat updates c version) ≡ changes_at cat c (changes_up_to updates version)
-concerning-near cat updates c zero = refl
-concerning-near cat updates c (suc version) =
+concerning_changes-near cat updates c zero = refl
+concerning_changes-near cat updates c (suc version) =
     let near = changes_near cat updates c version in
     let before = changes_up_to updates version in
     let batch = update_at updates version in
-    let earlier = concerning-near cat updates c version in
+    let earlier = concerning_changes-near cat updates c version in
     let at : (b : Bool) → is_some_change (next_changes_at cat c before batch) ≡ b
     → changes_at cat c (cond b (near ++ batch) near) ≡ changes_at cat c (before ++ batch) = elim [
-      | true ↦ λ so. concerning-same_before cat c near before batch earlier
+      | true ↦ λ so. concerning_changes-same_before cat c near before batch earlier
       | false ↦ λ none. earlier ∙ sym (without_second cat c before batch none)
     ] in
     at (is_some_change (next_changes_at cat c before batch)) refl
@@ -142,7 +142,7 @@ concerning-near cat updates c (suc version) =
 pub content-up_to_last : (cat : Catalogue) (edges : List Edge) (updates : List (List Change)) (c version : ℕ)
     → content_after cat edges (changes_up_to updates (last_update cat updates c version)) c ≡ content_after cat edges (changes_up_to updates version) c
 content-up_to_last cat edges updates c version =
-    ap (λ cs. edges_after cs (base_at cat edges c)) (concerning-up_to_last cat updates c version)
+    ap (λ cs. edges_after cs (base_at cat edges c)) (concerning_changes-up_to_last cat updates c version)
 
 pub content-same_update : (cat : Catalogue) (edges : List Edge) (updates : List (List Change)) (c version other : ℕ)
     → last_update cat updates c version ≡ last_update cat updates c other
@@ -190,15 +190,15 @@ contents-joined cat edges changes over dims ends =
     (base-placed cat edges over) (record { one = over.one_last; none = over.no_other }) within in
     subst (λ (xs : List Edge). IsSameGraph (flat_map (content_after cat edges changes) (chunk_numbers cat)) (edges_after changes xs)) over.joined joined
 
-concerning-within : (n : ℕ) (d : Dimensions) (site : Site) (sources : List ℕ) (changes : List Change) → AllByRecursion (ChangesWithin n) changes
-    → AllByRecursion (ChangesWithin n) (concerning d site sources changes)
-concerning-within n d site sources [] ends = tt
-concerning-within n d site sources (c ∷ changes) ends =
-    let more = c ∷ concerning d site (sources_after_one c sources) changes in
-    let fewer = concerning d site sources changes in
+concerning_changes-within : (n : ℕ) (d : Dimensions) (site : Site) (sources : List ℕ) (changes : List Change) → AllByRecursion (ChangesWithin n) changes
+    → AllByRecursion (ChangesWithin n) (concerning_changes d site sources changes)
+concerning_changes-within n d site sources [] ends = tt
+concerning_changes-within n d site sources (c ∷ changes) ends =
+    let more = c ∷ concerning_changes d site (sources_after_one c sources) changes in
+    let fewer = concerning_changes d site sources changes in
     let at : (b : Bool) → AllByRecursion (ChangesWithin n) (cond b more fewer) = elim [
-      | true ↦ (ends.0, concerning-within n d site (sources_after_one c sources) changes ends.1)
-      | false ↦ concerning-within n d site sources changes ends.1
+      | true ↦ (ends.0, concerning_changes-within n d site (sources_after_one c sources) changes ends.1)
+      | false ↦ concerning_changes-within n d site sources changes ends.1
     ] in
     at (concerns d site sources c)
 
@@ -206,7 +206,7 @@ concerning-within n d site sources (c ∷ changes) ends =
 pub changes_at-within : (cat : Catalogue) (c n : ℕ) (changes : List Change) → All (ChangesWithin n) changes → All (ChangesWithin n) (changes_at cat c changes)
 changes_at-within cat c n changes ends =
     All-from_recursion (ChangesWithin n) (changes_at cat c changes)
-    (concerning-within n cat.dimensions (site_at cat c) (sources_at cat c) changes (recursion_from_All (ChangesWithin n) changes ends))
+    (concerning_changes-within n cat.dimensions (site_at cat c) (sources_at cat c) changes (recursion_from_All (ChangesWithin n) changes ends))
 
 pub edges_after-within : (n : ℕ) (changes : List Change) (edges : List Edge) → All (ChangesWithin n) changes → IsGraph n edges → IsGraph n (edges_after changes edges)
 edges_after-within n [] edges ends graph = graph
@@ -253,15 +253,15 @@ no_update cat updates c (suc version) none =
 
 -- nothing is added where edges that are added don't go
 added-elsewhere : (d : Dimensions) (site : Site) (sources : List ℕ) (changes : List Change) → site.is_last ≡ false
-    → added_sources (concerning d site sources changes) ≡ []
+    → added_sources (concerning_changes d site sources changes) ≡ []
 added-elsewhere d site sources [] elsewhere = refl
 added-elsewhere d site sources (Add e ∷ changes) elsewhere =
     let b = eqb (block_of d e) site.block in
-    let all = concerning d site (e.from ∷ sources) changes in
-    let others = concerning d site sources changes in
+    let all = concerning_changes d site (e.from ∷ sources) changes in
+    let others = concerning_changes d site sources changes in
     ap (λ (last : Bool). added_sources (cond (last && b) (Add e ∷ all) others)) elsewhere ∙ added-elsewhere d site sources changes elsewhere
 added-elsewhere d site sources (Cut from to ∷ changes) elsewhere =
-    let others = concerning d site sources changes in
+    let others = concerning_changes d site sources changes in
     let at : (b : Bool) → added_sources (cond b (Cut from to ∷ others) others) ≡ added_sources others = elim [ true ↦ refl | false ↦ refl ] in
     at (concerns d site sources (Cut from to)) ∙ added-elsewhere d site sources changes elsewhere
 

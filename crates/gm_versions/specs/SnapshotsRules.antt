@@ -1,7 +1,7 @@
 -- What proofs need of snapshots: what keys stand for, and what overlays tell when they are looked up by a chunk.
 use Rattle.std.proofs.Common.{◌≡◌, ℕ, zero, suc, ◌+◌, ◌<◌, ◌≤◌, Bool, true, false, cond, ◌||◌, eqb, List, [], ◌∷◌, ◌++◌, map, length, All, sym, ap, ◌∙◌, refl, subst, arith, inl, inr}
 use Rattle.std.specs.List.{list_any, filter, flat_map, range_with_len, AllByRecursion}
-use Rattle.std.proofs.lemmas.Bool.{cases_lt, cond-false, eqb-true, eq-eqb, ne_eqb, or_left, or_right}
+use Rattle.std.proofs.lemmas.Bool.{cases_lt, eqb-true, eq-eqb, ne_eqb, or_left, or_right}
 use Rattle.std.proofs.lemmas.List.Elements.{All-from_recursion, recursion_from_All, All-weaker}
 use Rattle.std.proofs.lemmas.List.Folds.{list_any-append}
 use Rattle.gm_base.specs.declared.edge.Edge.{Edge}
@@ -20,7 +20,7 @@ use Rattle.gm_label.specs.Overlays.{added_at, key_at, sources_under, AscendByChu
 use Rattle.gm_versions.specs.Contents.{site_at, changes_at, sources_at_after, next_changes_at, added_sources, content_after, changes_up_to, all_changes, is_some_change, last_update}
 use Rattle.gm_versions.specs.Snapshots.{Snapshot, changes_of, edges_of, content_of, added_sources_of, sources_of, key_of, is_changed, overlay_of, overlays_of}
 use Rattle.gm_versions.specs.Keys.{changes_of_tag, content_of_key, IsTakenFrom, IsVersionKey}
-use Rattle.gm_versions.specs.ContentsRules.{some-concerning, added-in_parts, in_parts, none_is, last-le, last-concerns, none-later, content-up_to_last, content-same_update, content-placed, content-past, content-within, contents-joined, changes_at-within, changes-taken, lists-after, append-none, added-past, no_update, without_second}
+use Rattle.gm_versions.specs.ContentsRules.{all-taken, edges_after-within, some-concerning_changes, added-in_parts, in_parts, none_is, last-le, last-concerns, none-later, content-up_to_last, content-same_update, content-placed, content-past, content-within, contents-joined, changes_at-within, changes-taken, lists-after, append-none, added-past, no_update, without_second}
 
 -- a job's key of a chunk stands for all changes that the job sees
 pub content-of_key : (cat : Catalogue) (edges : List Edge) (updates : List (List Change)) (snapshot_of : ℕ → Snapshot) (s : Snapshot) (c : ℕ)
@@ -68,10 +68,6 @@ module _ {A : Type 0} (value : Overlay → A) where
   abbrev pub found_at : A → List Overlay → ℕ → A
   found_at other [] c = other
   found_at other (overlay ∷ overlays) c = cond (eqb overlay.key.chunk c) (value overlay) (found_at other overlays c)
-
-  found-none : (overlays : List Overlay) (other : A) (c : ℕ) → AllByRecursion (λ o. eqb o.key.chunk c ≡ false) overlays → found_at other overlays c ≡ other
-  found-none [] other c none = refl
-  found-none (o ∷ overlays) other c none = cond-false (eqb o.key.chunk c) (value o) _ none.0 ∙ found-none overlays other c none.1
 
   -- looked up among the overlays of those chunks that pass a test
   pub found-filtered : (overlay_at : ℕ → Overlay) (is_one : ℕ → Bool) (other : A) (c : ℕ) (cs : List ℕ) → ((k : ℕ) → (overlay_at k).key.chunk ≡ k)
@@ -249,4 +245,4 @@ content-listed cat edges s c over =
     (λ e place. under e.from ∙ place.listed) (content_of cat edges s c) (content-placed cat edges seen c over)
 
 -- keys, contents and overlays
-pub ruleset snapshots = (some-concerning, added-in_parts, key-of_version, last-le, last-concerns, none-later, content-up_to_last, content-of_key, content-same_update, content-same_key, content-looked_up, key_at-overlays, added_at-overlays, sources_under-overlays, content-in_block, content-within, content-past, lists-after)
+pub ruleset snapshots = (some-concerning_changes, added-in_parts, key-of_version, last-le, last-concerns, none-later, content-up_to_last, content-of_key, content-same_update, content-same_key, content-looked_up, key_at-overlays, added_at-overlays, sources_under-overlays, content-in_block, content-within, content-past, lists-after, contents-joined, content-placed, contents-view, content-listed, overlays-are, all-taken, edges_after-within, content-past)

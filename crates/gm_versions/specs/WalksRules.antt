@@ -32,23 +32,6 @@ walked {H} step start old new c q before now =
           ]
     ]
 
--- at its end, where the chunks from there on keep what they have
-pub walk_done : {H : Type 0} (step : H → H) (start new : H) (c end q : ℕ) → end ≤ c → (end ≤ q → step start ≡ start)
-    → new ≡ cond (ltb q c) (step start) start → new ≡ step start
-walk_done {H} step start new c end q past kept is =
-    elim (cases_lt q c) as (λ _. new ≡ step start) [
-      | inl less ↦ is ∙ cond-true (ltb q c) (step start) start (lt-ltb q c less)
-      | inr not_less ↦ is ∙ cond-false (ltb q c) (step start) start (le-ltb q c not_less) ∙ sym (kept (omega arith))
-    ]
-
--- before it
-pub walk_begun : {H : Type 0} (step : H → H) (start : H) (first q : ℕ) → (q < first → step start ≡ start) → start ≡ cond (ltb q first) (step start) start
-walk_begun {H} step start first q kept =
-    elim (cases_lt q first) as (λ _. start ≡ cond (ltb q first) (step start) start) [
-      | inl less ↦ sym (kept less) ∙ sym (cond-true (ltb q first) (step start) start (lt-ltb q first less))
-      | inr not_less ↦ sym (cond-false (ltb q first) (step start) start (le-ltb q first not_less))
-    ]
-
 less : (x y : ℕ) → nat_cmp x y ≡ Less → x < y
 less x y is =
     let at : (b t : Bool) → ltb x y ≡ b → cond b Less (cond t Equal Greater) ≡ Less → x < y = elim [

@@ -38,7 +38,8 @@ pub fn update_cuts_an_edge()
 
 /// A chunk without edges is given one, and with it its only source. A number that no chunk has is given nothing.
 pub fn chunk_without_edges_is_given_one()
-    ensures overlays { path_overlays (below_one (Change.Add (edge 3 0 1) ∷ [])) ≡ overlay 3 (Tag.Update 1) (3 ∷ []) ∷ [] }
+    ensures overlays { path_overlays (below_one (Change.Add (edge 3 0 1) ∷ []))
+        ≡ overlay 3 (Tag.Update 1) (3 ∷ []) ∷ [] }
     ensures content { path_content (below_one (Change.Add (edge 3 0 1) ∷ [])) 3 ≡ edge 3 0 1 ∷ [] }
     ensures no_chunk { path_content (below_one (Change.Add (edge 3 0 1) ∷ [])) 5 ≡ [] }
 {}
@@ -47,19 +48,22 @@ pub fn chunk_without_edges_is_given_one()
 pub fn update_that_concerns_no_chunk()
     ensures tags { path_tags (below_one (Change.Cut 3 1 ∷ []))
         ≡ Tag.Update 0 ∷ Tag.Update 0 ∷ Tag.Update 0 ∷ Tag.Update 0 ∷ Tag.Update 0 ∷ [] }
-    ensures later { path_overlays (below (joined_ends ++ (Change.Cut 3 1 ∷ []) ∷ [])) ≡ overlay 2 (Tag.Update 1) (0 ∷ []) ∷ [] }
+    ensures later { path_overlays (below (joined_ends ++ (Change.Cut 3 1 ∷ []) ∷ []))
+        ≡ overlay 2 (Tag.Update 1) (0 ∷ []) ∷ [] }
 {}
 
 /// A source that an update added is there for a later one: its cut concerns the chunk, and the source stays listed.
 pub fn later_update_cuts_what_was_added()
     ensures overlays { path_overlays (below ((Change.Add (edge 3 0 1) ∷ []) ∷ (Change.Cut 3 0 ∷ []) ∷ []))
         ≡ overlay 3 (Tag.Update 2) (3 ∷ []) ∷ [] }
-    ensures content { path_content (below ((Change.Add (edge 3 0 1) ∷ []) ∷ (Change.Cut 3 0 ∷ []) ∷ [])) 3 ≡ [] }
+    ensures content { let updates = (Change.Add (edge 3 0 1) ∷ []) ∷ (Change.Cut 3 0 ∷ []) ∷ [] in
+        path_content (below updates) 3 ≡ [] }
 {}
 
 /// A job cuts what an update added: its key of the chunk is its own, and the others stay those of its version.
 pub fn job_cuts_what_an_update_added()
-    ensures tags { path_tags parted_ends ≡ Tag.Update 0 ∷ Tag.Update 0 ∷ Tag.Own 0 ∷ Tag.Update 0 ∷ Tag.Update 0 ∷ [] }
+    ensures tags { path_tags parted_ends
+        ≡ Tag.Update 0 ∷ Tag.Update 0 ∷ Tag.Own 0 ∷ Tag.Update 0 ∷ Tag.Update 0 ∷ [] }
     ensures content { path_content parted_ends 2 ≡ edge 0 2 5 ∷ [] }
     ensures overlays { path_overlays parted_ends ≡ overlay 2 (Tag.Own 0) (0 ∷ []) ∷ [] }
     ensures edges { path_edges parted_ends ≡ path_with_shortcut }

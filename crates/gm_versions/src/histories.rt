@@ -88,7 +88,7 @@ impl Histories {
     }
 
     /// Whether an update up to a version added a source to a chunk.
-    pub(crate) fn has_added(&self, version: u32, chunk: u32, source: u32) -> bool
+    fn has_added(&self, version: u32, chunk: u32, source: u32) -> bool
         ensures { result ≡ lists (sources_in (history_up_to version (history_in self.now chunk))) source }
     {
         match self.by_chunk.get(&chunk) {
@@ -97,12 +97,21 @@ impl Histories {
         }
     }
 
+    /// Whether a source stands in a chunk's label, or was added to the chunk by an update up to a version.
+    pub(crate) fn has_source(&self, cat: &Catalogue, version: u32, chunk: u32, source: u32) -> bool
+        requires { chunk < length cat.now.places }
+        ensures { let h = history_up_to version (history_in self.now chunk) in
+            result ≡ lists (sources_at cat.now chunk ++ sources_in h) source }
+    {
+        cat.lists(chunk, source) || self.has_added(version, chunk, source)
+    }
+
     /// Whether a change that comes next after the updates up to a version concerns a chunk.
     pub(crate) fn concerns(&self, cat: &Catalogue, version: u32, chunk: u32, change: Change) -> bool
         requires chunk { chunk < length cat.now.places }
         requires ends { ChangesWithin cat.now.dimensions.n change }
-        ensures { result ≡ concerns cat.now.dimensions (site_at cat.now chunk)
-            (sources_at cat.now chunk ++ sources_in (history_up_to version (history_in self.now chunk))) change }
+        ensures { let h = history_up_to version (history_in self.now chunk) in
+            result ≡ concerns cat.now.dimensions (site_at cat.now chunk) (sources_at cat.now chunk ++ sources_in h) change }
     {
         let here = cat.chunk(chunk).block;
         match change {
@@ -110,7 +119,7 @@ impl Histories {
             Change::Cut { from, to } => {
                 let weight = 0;
                 cat.shape().block_of(&Edge { from, to, weight }) == here
-                    && (cat.lists(chunk, from) || self.has_added(version, chunk, from))
+                    && self.has_source(cat, version, chunk, from)
             }
         }
     }
@@ -236,7 +245,8 @@ impl Histories {
 
     /// Takes back what later updates than this version brought.
     pub(crate) fn roll_back(&mut self, version: u32)
-        ensures { IsLogged version self.old → (q : ℕ) → history_in self.new q ≡ history_up_to version (history_in self.old q) }
+        ensures { IsLogged version self.old
+            → (q : ℕ) → history_in self.new q ≡ history_up_to version (history_in self.old q) }
     {
         while let Some(chunk) = self.undo_log.pop() {
             self.roll_back_at(version, chunk);

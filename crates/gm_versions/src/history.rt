@@ -79,7 +79,8 @@ fn keep_place(
 ) -> Result<(), Memory>
     requires { HasFirstPlaces (map (λ a. a.source) added.now) (get nat_cmp first_places.old) }
     ensures before { HasFirstPlaces (map (λ a. a.source) added.now) (get nat_cmp first_places.new) }
-    ensures after { OnOk result (HasFirstPlaces (map (λ a. a.source) added.now ++ source ∷ []) (get nat_cmp first_places.new)) }
+    ensures after { let more = map (λ a. a.source) added.now ++ source ∷ [] in
+        OnOk result (HasFirstPlaces more (get nat_cmp first_places.new)) }
 {
     if !is_added(first_places, added, source) {
         first_places.insert(source, added.len())?;
@@ -135,7 +136,8 @@ impl History {
     pub(crate) fn note(&mut self, number: u32, added: Option<u32>) -> Result<(), Memory>
         requires { IsUpTo number self.old }
         ensures ok { OnOk result (self.new ≡ with_touch number (option_to_list added) self.old) }
-        ensures before { (version : ℕ) → version < number → history_up_to version self.new ≡ history_up_to version self.old }
+        ensures before { (version : ℕ) → version < number
+            → history_up_to version self.new ≡ history_up_to version self.old }
         ensures up_to { IsUpTo number self.new }
     {
         self.note_update(number)?;

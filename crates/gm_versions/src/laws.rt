@@ -22,13 +22,15 @@ pub fn contents_joined()
     ensures { (cat : Catalogue) (edges : List Edge) (changes : List Change)
         → IsOver cat edges → AreDimensions cat.dimensions.n cat.dimensions.parts
         → All (ChangesWithin cat.dimensions.n) changes
-        → IsSameGraph (flat_map (content_after cat edges changes) (chunk_numbers cat)) (edges_after changes edges) }
+        → IsSameGraph (flat_map (content_after cat edges changes) (chunk_numbers cat))
+        (edges_after changes edges) }
 {}
 
 /// A law: each edge of a chunk after changes lies in the chunk's block, with its source among the chunk's sources.
 pub fn content_edges_are_placed()
     ensures { (cat : Catalogue) (edges : List Edge) (changes : List Change) (c : ℕ) → IsOver cat edges
-        → All (IsPlaced cat.dimensions (site_at cat c) (sources_at_after cat c changes)) (content_after cat edges changes c) }
+        → All (IsPlaced cat.dimensions (site_at cat c) (sources_at_after cat c changes))
+        (content_after cat edges changes c) }
 {}
 
 /// A law: a chunk's sources after changes are those of its label and those of the edges that were added to it.
@@ -43,7 +45,8 @@ pub fn update_of_key_is_the_last()
     ensures within { (cat : Catalogue) (updates : List (List Change)) (c version : ℕ)
         → last_update cat updates c version ≤ version }
     ensures concerns { (cat : Catalogue) (updates : List (List Change)) (c version t : ℕ)
-        → last_update cat updates c version ≡ t + 1 → is_some_change (update_changes_at cat updates c t) ≡ true }
+        → last_update cat updates c version ≡ t + 1
+        → is_some_change (update_changes_at cat updates c t) ≡ true }
     ensures none_later { (cat : Catalogue) (updates : List (List Change)) (c version t : ℕ)
         → last_update cat updates c version ≤ t → t < version → update_changes_at cat updates c t ≡ [] }
 {}
@@ -79,22 +82,25 @@ pub fn key_tells_the_content()
     ensures version { (cat : Catalogue) (edges : List Edge) (updates : List (List Change)) (c version : ℕ)
         → content_after cat edges (changes_up_to updates (last_update cat updates c version)) c
         ≡ content_after cat edges (changes_up_to updates version) c }
-    ensures job { (cat : Catalogue) (edges : List Edge) (updates : List (List Change)) (snapshot_of : ℕ → Snapshot)
-        (s : Snapshot) (c : ℕ) → IsTakenFrom updates snapshot_of s
+    ensures job { (cat : Catalogue) (edges : List Edge) (updates : List (List Change))
+        (snapshot_of : ℕ → Snapshot) (s : Snapshot) (c : ℕ) → IsTakenFrom updates snapshot_of s
         → content_of_key cat edges updates snapshot_of (key_of cat s c) ≡ content_of cat edges s c }
-    ensures overlays { (cat : Catalogue) (edges : List Edge) (updates : List (List Change)) (snapshot_of : ℕ → Snapshot)
-        (s : Snapshot) (c : ℕ) → IsTakenFrom updates snapshot_of s
-        → content_of_key cat edges updates snapshot_of (key_at (overlays_of cat s) c) ≡ content_of cat edges s c }
+    ensures overlays { (cat : Catalogue) (edges : List Edge) (updates : List (List Change))
+        (snapshot_of : ℕ → Snapshot) (s : Snapshot) (c : ℕ) → IsTakenFrom updates snapshot_of s
+        → content_of_key cat edges updates snapshot_of (key_at (overlays_of cat s) c)
+        ≡ content_of cat edges s c }
 {}
 
 /// A law: two jobs that have the same key of a chunk see the same edges of it.
 pub fn same_key_same_content()
-    ensures versions { (cat : Catalogue) (edges : List Edge) (updates : List (List Change)) (c version other : ℕ)
+    ensures versions { (cat : Catalogue) (edges : List Edge) (updates : List (List Change))
+        (c version other : ℕ)
         → last_update cat updates c version ≡ last_update cat updates c other
         → content_after cat edges (changes_up_to updates version) c
         ≡ content_after cat edges (changes_up_to updates other) c }
-    ensures jobs { (cat : Catalogue) (edges : List Edge) (updates : List (List Change)) (snapshot_of : ℕ → Snapshot)
-        (s t : Snapshot) (c : ℕ) → IsTakenFrom updates snapshot_of s → IsTakenFrom updates snapshot_of t
+    ensures jobs { (cat : Catalogue) (edges : List Edge) (updates : List (List Change))
+        (snapshot_of : ℕ → Snapshot) (s t : Snapshot) (c : ℕ) → IsTakenFrom updates snapshot_of s
+        → IsTakenFrom updates snapshot_of t
         → key_of cat s c ≡ key_of cat t c → content_of cat edges s c ≡ content_of cat edges t c }
 {}
 
@@ -102,8 +108,10 @@ pub fn same_key_same_content()
 pub fn overlays_tell_keys_and_sources()
     ensures key { (cat : Catalogue) (s : Snapshot) (c : ℕ) → c < length cat.places
         → key_at (overlays_of cat s) c ≡ key_of cat s c }
-    ensures added { (cat : Catalogue) (s : Snapshot) (c : ℕ) → added_at (overlays_of cat s) c ≡ added_sources_of cat s c }
-    ensures sources { (cat : Catalogue) (s : Snapshot) (c : ℕ) → sources_under cat (overlays_of cat s) c ≡ sources_of cat s c }
+    ensures added { (cat : Catalogue) (s : Snapshot) (c : ℕ)
+        → added_at (overlays_of cat s) c ≡ added_sources_of cat s c }
+    ensures sources { (cat : Catalogue) (s : Snapshot) (c : ℕ)
+        → sources_under cat (overlays_of cat s) c ≡ sources_of cat s c }
     ensures overlays { (cat : Catalogue) (s : Snapshot) → All (ChangesWithin cat.dimensions.n) (changes_of s)
         → AreOverlays cat (overlays_of cat s) }
 {}
@@ -115,17 +123,18 @@ pub fn contents_are_the_view()
         → IsOver cat edges → AreDimensions cat.dimensions.n cat.dimensions.parts
         → All (ChangesWithin cat.dimensions.n) (changes_of s)
         → IsSameGraph (flat_map (content_of cat edges s) (chunk_numbers cat)) (edges_of edges s) }
-    ensures keys { (cat : Catalogue) (edges : List Edge) (updates : List (List Change)) (snapshot_of : ℕ → Snapshot)
-        (s : Snapshot) → IsOver cat edges → AreDimensions cat.dimensions.n cat.dimensions.parts
+    ensures keys { (cat : Catalogue) (edges : List Edge) (updates : List (List Change))
+        (snapshot_of : ℕ → Snapshot) (s : Snapshot) → IsOver cat edges
+        → AreDimensions cat.dimensions.n cat.dimensions.parts
         → All (ChangesWithin cat.dimensions.n) (changes_of s) → IsTakenFrom updates snapshot_of s
-        → IsSameGraph (flat_map (λ c. content_of_key cat edges updates snapshot_of (key_of cat s c)) (chunk_numbers cat))
-        (edges_of edges s) }
-    ensures overlays { (cat : Catalogue) (edges : List Edge) (updates : List (List Change)) (snapshot_of : ℕ → Snapshot)
-        (s : Snapshot) → IsOver cat edges → AreDimensions cat.dimensions.n cat.dimensions.parts
+        → let content = content_of_key cat edges updates snapshot_of in
+        IsSameGraph (flat_map (λ c. content (key_of cat s c)) (chunk_numbers cat)) (edges_of edges s) }
+    ensures overlays { (cat : Catalogue) (edges : List Edge) (updates : List (List Change))
+        (snapshot_of : ℕ → Snapshot) (s : Snapshot) → IsOver cat edges
+        → AreDimensions cat.dimensions.n cat.dimensions.parts
         → All (ChangesWithin cat.dimensions.n) (changes_of s) → IsTakenFrom updates snapshot_of s
-        → IsSameGraph
-        (flat_map (λ c. content_of_key cat edges updates snapshot_of (key_at (overlays_of cat s) c)) (chunk_numbers cat))
-        (edges_of edges s) }
+        → let content = content_of_key cat edges updates snapshot_of in
+        IsSameGraph (flat_map (λ c. content (key_at (overlays_of cat s) c)) (chunk_numbers cat)) (edges_of edges s) }
 {}
 
 /// A law: the edges of a chunk as a job sees them lie in the chunk's block, their ends are vertices, and their sources are among those
@@ -144,5 +153,6 @@ pub fn contents_lie_in_their_chunks()
 
 /// A law: what a job sees of a graph is a graph of the same vertices.
 pub fn snapshots_are_graphs()
-    ensures { (n : ℕ) (edges : List Edge) (s : Snapshot) → IsGraph n edges → IsSnapshotOver n s → IsGraph n (edges_of edges s) }
+    ensures { (n : ℕ) (edges : List Edge) (s : Snapshot)
+        → IsGraph n edges → IsSnapshotOver n s → IsGraph n (edges_of edges s) }
 {}

@@ -1,13 +1,14 @@
 //! Versions of a grid.
 
-ghost use Rattle.std.specs.Prelude.{◌≡◌, ◌+◌, ◌<◌, ◌≤◌, [], ◌∷◌, ◌++◌, length, All, IfOk, OnOk, OnErr};
+ghost use Rattle.std.specs.Vec.{vec_len};
+ghost use Rattle.std.specs.Prelude.{take, ◌≡◌, ◌+◌, ◌<◌, ◌≤◌, [], ◌∷◌, ◌++◌, length, All, IfOk, OnOk, OnErr};
 ghost use Rattle.std.specs.List.{filter};
 ghost use Rattle.gm_base.specs.declared.limits.TheConstants.{MAX_CHANGES};
 ghost use Rattle.gm_changes.specs.Changes.{ChangesWithin, edges_after};
 ghost use Rattle.gm_changes.specs.Concerns.{lists, concerns, may_concern};
 ghost use Rattle.gm_label.specs.Catalogues.{Catalogue as Known};
 ghost use Rattle.gm_label.specs.Overlays.{AreOverlays};
-ghost use Rattle.gm_versions.specs.Contents.{site_at, sources_at_after, changes_up_to, changes_near};
+ghost use Rattle.gm_versions.specs.Contents.{concerns_next, possible_changes_at, sources_at_after, changes_up_to, changes_near};
 ghost use Rattle.gm_versions.specs.Snapshots.{version_of, key_of, overlays_of};
 ghost use Rattle.gm_versions.specs.Keys.{IsVersionKey, update_of};
 ghost use Rattle.gm_versions.specs.Kept.{IsOf, AreSame, AreUpTo, IsKeptBefore, AreNotedFor, IsCopy};
@@ -38,7 +39,8 @@ fn add_batch(
     requires few { length batches.old < MAX_CHANGES }
     requires up_to { AreUpTo (length batches.old + 1) histories.old }
     requires ends { All (ChangesWithin cat.now.dimensions.n) batch }
-    ensures noted { OnOk result (AreNotedFor cat.now (length batches.old + 1) batch histories.old histories.new) }
+    ensures noted { let number = length batches.old + 1 in
+        OnOk result (AreNotedFor cat.now number batch histories.old histories.new) }
     ensures kept { IsKeptBefore (length batches.old + 1) histories.old histories.new }
     ensures ok { OnOk result (batches.new ≡ batches.old ++ batch ∷ []) }
     ensures err { OnErr result (batches.new ≡ batches.old) }
@@ -93,6 +95,7 @@ impl Versions {
     }
 
     /// The same, of changes that are handed over: they aren't copied.
+    #[tactic(auto, using(crate::proofs::Answering::updates_kept))]
     pub fn take_update(&mut self, cat: &Catalogue, batch: Changes) -> Result<(), Memory>
         requires catalogue { IsOf cat.now self.old }
         requires few { length self.old.batches < MAX_CHANGES }
@@ -127,40 +130,43 @@ impl Versions {
     }
 
     /// Whether a source stands in a chunk's label, or was added to the chunk by an update up to a version.
+    #[tactic(auto, using(crate::proofs::Answering::updates_kept))]
     pub fn has_source(&self, cat: &Catalogue, version: u32, chunk: u32, source: u32) -> bool
         requires catalogue { IsOf cat.now self.now }
         requires version { version ≤ length self.now.batches }
         requires chunk { chunk < length cat.now.places }
-        ensures { result ≡ lists (sources_at_after cat.now chunk (changes_up_to self.now.batches version)) source }
+        ensures { let before = changes_up_to self.now.batches version in
+            result ≡ lists (sources_at_after cat.now chunk before) source }
     {
-        cat.lists(chunk, source) || self.histories.has_added(version, chunk, source)
+        self.histories.has_source(cat, version, chunk, source)
     }
 
     /// Whether a change that comes next after the updates up to a version concerns a chunk.
+    #[tactic(auto, using(crate::proofs::Answering::updates_kept))]
     pub fn concerns(&self, cat: &Catalogue, version: u32, chunk: u32, change: Change) -> bool
         requires catalogue { IsOf cat.now self.now }
         requires version { version ≤ length self.now.batches }
         requires chunk { chunk < length cat.now.places }
         requires ends { ChangesWithin cat.now.dimensions.n change }
-        ensures { result ≡ concerns cat.now.dimensions (site_at cat.now chunk) (sources_at_after cat.now chunk (changes_up_to self.now.batches version)) change }
+        ensures { result ≡ concerns_next cat.now chunk (changes_up_to self.now.batches version) change }
     {
         self.histories.concerns(cat, version, chunk, change)
     }
 
-    /// Adds to the list the changes of those updates up to a version that concern a chunk, as far as they may concern it whatever
-    /// its sources are. To apply these to the chunk's edges is to apply those that concern it. Updates that don't concern the chunk
-    /// aren't looked at. After `Memory` some of them may be in the list.
-    pub fn gather(
+    /// Adds the changes of the updates that concern a chunk. After `Memory` some of them may be in the list.
+    fn gather_updates(
         &self,
         cat: &Catalogue,
         version: u32,
         chunk: u32,
-        into: &mut Changes,
+        into: &mut Vec<Change>,
     ) -> Result<(), Memory>
         requires catalogue { IsOf cat.now self.now }
         requires version { version ≤ length self.now.batches }
         requires chunk { chunk < length cat.now.places }
-        ensures { OnOk result (into.new ≡ into.old ++ filter (may_concern cat.now.dimensions (site_at cat.now chunk)) (changes_near cat.now self.now.batches chunk version)) }
+        ensures added { let near = changes_near cat.now self.now.batches chunk version in
+            OnOk result (into.new.items ≡ into.old.items ++ possible_changes_at cat.now chunk near) }
+        ensures front { take (vec_len into.old) into.new.items ≡ into.old.items }
     {
         let block = cat.chunk(chunk).block;
         let last = cat.is_last(chunk);
@@ -168,6 +174,33 @@ impl Versions {
             gather(self.batches.get(*update), cat.shape(), block, last, into)?;
         }
         Ok(())
+    }
+
+    /// Adds to the list the changes of those updates up to a version that concern a chunk, as far as they may concern it whatever
+    /// its sources are. To apply these to the chunk's edges is to apply those that concern it. Updates that don't concern the chunk
+    /// aren't looked at. A refusal leaves the list as it was.
+    pub fn gather(
+        &self,
+        cat: &Catalogue,
+        version: u32,
+        chunk: u32,
+        into: &mut Vec<Change>,
+    ) -> Result<(), Memory>
+        requires catalogue { IsOf cat.now self.now }
+        requires version { version ≤ length self.now.batches }
+        requires chunk { chunk < length cat.now.places }
+        ensures ok { let near = changes_near cat.now self.now.batches chunk version in
+            OnOk result (into.new.items ≡ into.old.items ++ possible_changes_at cat.now chunk near) }
+        ensures err { OnErr result (into.new.items ≡ into.old.items) }
+    {
+        let before = into.len();
+        match self.gather_updates(cat, version, chunk, into) {
+            Ok(()) => Ok(()),
+            Err(refusal) => {
+                into.truncate(before);
+                Err(refusal)
+            }
+        }
     }
 
     /// The copy of a chunk for all jobs of a key that isn't a job's own. It takes over the chunk's edges as they were read from the
@@ -185,7 +218,7 @@ impl Versions {
         ensures { IfOk result (IsCopy cat.now self.now raw.chunk raw.edges key) }
     {
         let Raw { chunk, mut edges } = raw;
-        let mut near = Changes::new(alloc);
+        let mut near = Vec::new(alloc);
         self.gather(cat, update_of(key.tag), chunk, &mut near)?;
         apply(alloc, near.as_slice(), &mut edges)?;
         Ok(ChunkCopy { key, edges })
@@ -217,7 +250,8 @@ impl Versions {
     pub fn overlays(&self, alloc: Global, cat: &Catalogue, version: u32) -> Result<Overlays, Memory>
         requires catalogue { IsOf cat.now self.now }
         requires version { version ≤ length self.now.batches }
-        ensures value { IfOk result (λ overlays. overlays ≡ overlays_of cat.now (version_of self.now.batches version)) }
+        ensures value { let s = version_of self.now.batches version in
+            IfOk result (λ overlays. overlays ≡ overlays_of cat.now s) }
         ensures fit { IfOk result (AreOverlays cat.now) }
     {
         self.histories.overlays(alloc, version)

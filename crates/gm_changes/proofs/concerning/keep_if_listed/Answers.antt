@@ -2,8 +2,8 @@ use Rattle.std.proofs.Common.{◌≡◌, true, false, List, [], ◌∷◌, ◌++
 use Rattle.gm_changes.specs.declared.change.Change.{Change}
 use Rattle.gm_changes.specs.declared.change.Change.TheVariants.{Cut}
 use Rattle.gm_changes.specs.Concerns.{lists, sources_after_one}
-use Rattle.gm_changes.specs.Sources.{with_listed_sources, TellsSources}
-use Rattle.gm_changes.proofs.Listing.{asked_for, taken_next, left_next}
+use Rattle.gm_changes.specs.Sources.{listed_changes, TellsSources}
+use Rattle.gm_changes.proofs.Noting.{asked_for, taken_next, left_next}
 use Rattle.gm_changes.proofs.concerning.keep_if_listed.Goals as goal
 
 pub returns-in_ok-push-in-Add-clause-told : goal.returns-in_ok-push-in-Add-clause-told
@@ -19,8 +19,8 @@ returns-in_ok-push-in-Cut-clause-kept c changes rest place sources tells is =
     let asked = asked_for changes rest place from to (is ∙ ap (λ (change : Change). change ∷ rest) c.in-Cut.is) in
     let listed : lists sources from ≡ true = sym (c.has.ensures changes sources tells asked) ∙ c.if-has.true in
     let pushed : new ≡ kept ++ Cut from to ∷ [] = c.in_ok-push-in-Cut.ensures.ok ∙ ap (λ (change : Change). kept ++ change ∷ []) c.in-Cut.is in
-    subst (λ (change : Change). new ++ with_listed_sources (sources_after_one change sources) rest ≡ kept ++ with_listed_sources sources (change ∷ rest)) (sym c.in-Cut.is)
-    (ap (λ (list : List Change). list ++ with_listed_sources sources rest) pushed ∙ taken_next sources from to kept rest listed)
+    subst (λ (change : Change). new ++ listed_changes (sources_after_one change sources) rest ≡ kept ++ listed_changes sources (change ∷ rest)) (sym c.in-Cut.is)
+    (ap (λ (list : List Change). list ++ listed_changes sources rest) pushed ∙ taken_next sources from to kept rest listed)
 
 pub returns-else-has-clause-kept : goal.returns-else-has-clause-kept
 returns-else-has-clause-kept c changes rest place sources tells is =
@@ -29,5 +29,5 @@ returns-else-has-clause-kept c changes rest place sources tells is =
     let kept = c.args.kept.now in
     let asked = asked_for changes rest place from to (is ∙ ap (λ (change : Change). change ∷ rest) c.in-Cut.is) in
     let unlisted : lists sources from ≡ false = sym (c.has.ensures changes sources tells asked) ∙ c.if-has.false in
-    subst (λ (change : Change). kept ++ with_listed_sources (sources_after_one change sources) rest ≡ kept ++ with_listed_sources sources (change ∷ rest)) (sym c.in-Cut.is)
+    subst (λ (change : Change). kept ++ listed_changes (sources_after_one change sources) rest ≡ kept ++ listed_changes sources (change ∷ rest)) (sym c.in-Cut.is)
     (left_next sources from to kept rest unlisted)

@@ -1,14 +1,14 @@
 use Rattle.std.proofs.Common.{◌+◌, ◌++◌, take, drop, ap}
 use Rattle.std.proofs.lemmas.List.{drop_more}
 use Rattle.gm_changes.specs.Concerns.{sources_after}
-use Rattle.gm_changes.specs.Sources.{with_listed_sources}
-use Rattle.gm_changes.proofs.Listing.{told_next, joined_next}
+use Rattle.gm_changes.specs.Sources.{listed_changes}
+use Rattle.gm_changes.proofs.Noting.{told_next, joined_next}
 use Rattle.gm_changes.proofs.concerning.keep_listed.Goals as goal
 
 pub loop-change-init : goal.loop-change-init
 loop-change-init c = record {
   told = c.add_all.ensures c.args.near.now c.in_ok-told.ensures;
-  joined = ap (λ kept. kept ++ with_listed_sources c.args.sources.now c.args.near.now) c.new-kept.ensures;
+  joined = ap (λ kept. kept ++ listed_changes c.args.sources.now c.args.near.now) c.new-kept.ensures;
 }
 
 pub loop-change-preserved : goal.loop-change-preserved

@@ -2,7 +2,7 @@ use Rattle.std.proofs.Common.{◌∙◌, ℕ, eqb, map, nat_cmp, sym, ap, le-ltb
 use Rattle.std.specs.BTreeMap.{get}
 use Rattle.std.proofs.lemmas.List.{get_or-map, length-map}
 use Rattle.gm_versions.specs.declared.history.AddedSource.{AddedSource}
-use Rattle.gm_versions.proofs.FirstPlaces.{believed, too_late, nowhere}
+use Rattle.gm_versions.proofs.HistorySteps.{believed, too_late, nowhere}
 use Rattle.gm_versions.proofs.history.is_added.Goals as goal
 
 source : AddedSource → ℕ

@@ -3,7 +3,7 @@ use Rattle.std.proofs.lemmas.Grind.{common_steps}
 use Rattle.std.proofs.lemmas.List.{length-map}
 use Rattle.std.specs.BTreeMap.{get, is_at}
 use Rattle.gm_versions.specs.declared.history.AddedSource.{AddedSource}
-use Rattle.gm_versions.proofs.FirstPlaces.{has-others, has-new, has-known}
+use Rattle.gm_versions.proofs.HistorySteps.{has-others, has-new, has-known}
 use Rattle.gm_versions.proofs.history.keep_place.Goals as goal
 
 source : AddedSource → ℕ

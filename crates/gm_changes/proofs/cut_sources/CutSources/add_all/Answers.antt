@@ -1,7 +1,7 @@
 use Rattle.std.proofs.Common.{ℕ, ◌<◌, List, [], ◌∷◌, ◌++◌, length, take, slice_index_or, sym, ap, subst, ◌∙◌}
 use Rattle.std.proofs.lemmas.List.{take_more, take_all}
 use Rattle.gm_changes.specs.Sources.{TellsSources}
-use Rattle.gm_changes.proofs.Listing.{one_source_more}
+use Rattle.gm_changes.proofs.Noting.{one_source_more}
 use Rattle.gm_changes.proofs.cut_sources.CutSources.add_all.Goals as goal
 
 pub loop-source-preserved : goal.loop-source-preserved

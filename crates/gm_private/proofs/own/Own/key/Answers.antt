@@ -5,9 +5,9 @@ use Rattle.gm_base.specs.declared.copies.Tag.TheVariants.{Update, Own}
 use Rattle.gm_changes.specs.declared.change.Change.{Change}
 use Rattle.gm_changes.specs.Concerns.{concerns}
 use Rattle.gm_label.specs.Catalogues.{Catalogue}
-use Rattle.gm_versions.specs.Contents.{site_at, sources_at_after, next_changes_at, changes_up_to, all_changes, is_some_change, last_update}
+use Rattle.gm_versions.specs.Contents.{site_at, sources_at_after, next_changes_at, changes_up_to, is_some_change, last_update}
 use Rattle.gm_versions.specs.Snapshots.{version_of, key_of}
-use Rattle.gm_versions.specs.ContentsRules.{all-taken, some-concerning}
+use Rattle.gm_versions.specs.ContentsRules.{all-taken, some-concerning_changes}
 use Rattle.gm_private.specs.OwnChanges.{OwnChanges, snapshot_in}
 use Rattle.gm_private.proofs.own.Own.key.Goals as goal
 
@@ -19,7 +19,7 @@ keyed : (cat : Catalogue) (updates : List (List Change)) (own : OwnChanges) (c :
 keyed cat updates own c found few is =
     let s = snapshot_in updates own in
     let key = λ (b : Bool). let k : Key = record { chunk = c; tag = cond b (Own own.job) (Update (last_update cat s.updates c (length s.updates))) } in k in
-    ap key (is ∙ sym (some-concerning cat c (changes_up_to updates own.version) own.changes)
+    ap key (is ∙ sym (some-concerning_changes cat c (changes_up_to updates own.version) own.changes)
     ∙ ap (λ (before : List Change). is_some_change (next_changes_at cat c before own.changes)) (sym (all-taken updates own.version few)))
 
 pub returns-then-concerns : goal.returns-then-concerns

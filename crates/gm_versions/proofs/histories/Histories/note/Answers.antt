@@ -1,6 +1,6 @@
 use Rattle.std.proofs.Common.{◌∙◌, ap}
 use Rattle.gm_versions.specs.Histories.{history_up_to}
-use Rattle.gm_versions.proofs.Logging.{logged-noted}
+use Rattle.gm_versions.proofs.Noting.{logged-noted}
 use Rattle.gm_versions.proofs.histories.Histories.note.Goals as goal
 
 pub returns-clause-kept : goal.returns-clause-kept

@@ -1,5 +1,5 @@
 use Rattle.std.proofs.Common.{◌∙◌}
-use Rattle.gm_versions.proofs.Logging.{logged-forgotten, before-forgotten}
+use Rattle.gm_versions.proofs.Noting.{logged-forgotten, before-forgotten}
 use Rattle.gm_versions.proofs.histories.Histories.roll_back.Goals as goal
 
 pub loop-chunk-preserved : goal.loop-chunk-preserved

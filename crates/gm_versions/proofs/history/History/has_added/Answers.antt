@@ -2,7 +2,7 @@ use Rattle.std.proofs.Common.{List, map, take, nat_cmp, sym, subst}
 use Rattle.std.specs.BTreeMap.{get}
 use Rattle.gm_versions.specs.declared.history.AddedSource.{AddedSource}
 use Rattle.gm_versions.specs.Histories.{HasFirstPlaces}
-use Rattle.gm_versions.proofs.FirstPlaces.{has-front}
+use Rattle.gm_versions.proofs.HistorySteps.{has-front}
 use Rattle.gm_versions.proofs.history.History.has_added.Goals as goal
 
 pub is_added-requires : goal.is_added-requires

@@ -4,7 +4,7 @@ use Rattle.std.specs.List.Sorted.{IsNonDecreasingBy}
 use Rattle.std.proofs.lemmas.List.Sorted.{IsNonDecreasingBy-take}
 use Rattle.gm_versions.specs.declared.history.AddedSource.{AddedSource}
 use Rattle.gm_versions.specs.Histories.{HasFirstPlaces}
-use Rattle.gm_versions.proofs.FirstPlaces.{has-front}
+use Rattle.gm_versions.proofs.HistorySteps.{has-front}
 use Rattle.gm_versions.proofs.history.History.roll_back.Goals as goal
 
 pub invariant_of-self : goal.invariant_of-self

@@ -1,15 +1,11 @@
-use Rattle.std.proofs.Common.{ℕ, ◌≤◌, List, ◌++◌, length, ap, ◌∙◌, refl, subst, sym}
+use Rattle.std.proofs.Common.{ℕ, List, ◌++◌, ap, ◌∙◌, refl}
 use Rattle.std.specs.List.{filter}
 use Rattle.gm_changes.specs.declared.change.Change.{Change}
 use Rattle.gm_changes.specs.Changes.{edges_after}
 use Rattle.gm_changes.specs.Concerns.{may_concern}
 use Rattle.gm_versions.specs.Contents.{changes_near, site_at}
-use Rattle.gm_versions.proofs.Answering.{update-within, copied-placed, copied-content}
+use Rattle.gm_versions.proofs.Answering.{copied-placed, copied-content}
 use Rattle.gm_versions.proofs.versions.Versions.into_copy.Goals as goal
-
-pub gather-requires-clause-version : goal.gather-requires-clause-version
-gather-requires-clause-version c =
-    subst (λ (v : ℕ). v ≤ length c.args.self.now.batches) (sym c.update_of.ensures) (update-within _ c.args.key.tag c.requires.key.update)
 
 pub returns : goal.returns
 returns c =
@@ -17,8 +13,8 @@ returns c =
     let updates = c.args.self.now.batches in
     let chunk = c.args.raw.chunk in
     let keeps = may_concern cat.dimensions (site_at cat chunk) in
-    let gathered = c.in_ok-gather.ensures ∙ ap (λ (cs : List Change). cs ++ filter keeps (changes_near cat updates chunk c.update_of.result)) c.new-near.ensures ∙ ap (λ (v : ℕ). filter keeps (changes_near cat updates chunk v)) c.update_of.ensures in
-    let made = c.in_ok-apply.ensures.ok ∙ ap (λ (cs : List Change). edges_after cs c.args.raw.edges) (c.as_slice.ensures ∙ gathered) in
+    let gathered = c.in_ok-gather.ensures.ok ∙ ap (λ (cs : List Change). cs ++ filter keeps (changes_near cat updates chunk c.update_of.result)) c.new-near.ensures.items ∙ ap (λ (v : ℕ). filter keeps (changes_near cat updates chunk v)) c.update_of.ensures in
+    let made = c.in_ok-apply.ensures.ok ∙ ap (λ (cs : List Change). edges_after cs c.args.raw.edges) (c.as_slice.ensures.value ∙ gathered) in
     record {
       of_key = refl;
       changed = λ placed. made ∙ copied-placed cat updates _ chunk c.args.raw.edges placed;

@@ -9,7 +9,7 @@ use Rattle.gm_versions.specs.Snapshots.{version_of, changes_of, overlays_of}
 use Rattle.gm_versions.specs.ContentsRules.{all-taken}
 use Rattle.gm_versions.specs.SnapshotsRules.{overlays-are}
 use Rattle.gm_versions.specs.Histories.{overlays_in}
-use Rattle.gm_versions.proofs.ChangedChunks.{overlays-answered}
+use Rattle.gm_versions.proofs.Answering.{overlays-answered}
 use Rattle.gm_versions.proofs.versions.Versions.overlays.Goals as goal
 
 pub returns-clause-value : goal.returns-clause-value
