@@ -1,17 +1,20 @@
--- The contracts of the tools allow that nothing is done.
-use Rattle.std.specs.Prelude.{◌≡◌, ℕ, ◌+◌, List, Option, Some, None, IfSome, refl}
+-- The contracts of the tools allow that nothing is done, and of a build that no other file changes.
+use Rattle.std.specs.Prelude.{◌≡◌, ℕ, ◌+◌, List, Option, Some, None, IfSome, Result, Ok, Err, refl}
 use Rattle.std.specs.FinMap.{get}
-use Rattle.std.proofs.Common.{inl, sym, subst, arith}
+use Rattle.std.proofs.Common.{inl, inr, sym, subst, arith}
 use Rattle.gm_base.specs.declared.limits.TheConstants.{MAX_CHUNKS}
 use Rattle.gm_outside.specs.Files.{Files}
 use Rattle.gm_outside.specs.FramesRules.{only_reads-none, only_reads-more}
 use Rattle.gm_outside.specs.States.{DepotState}
 use Rattle.gm_words.specs.Commands.{Command, BuildCommand, InfoCommand, run, build, info}
 use Rattle.gm_source.specs.Openings.{ReadsUpTo, file_reads}
-use Rattle.gm_commands.specs.Endings.{CommandContract, Outside, WritesNothing}
+use Rattle.gm_build.specs.Blocks.{built_file}
+use Rattle.gm_commands.specs.declared.failure.Failure.{Failure}
+use Rattle.gm_commands.specs.declared.failure.Failure.TheVariants.{Refused, ReadFailed, WriteFailed, OutputFailed, OutOfMemory}
+use Rattle.gm_commands.specs.Endings.{CommandContract, Handles, Outside, WritesNothing}
 use Rattle.gm_commands.specs.EndingsRules.{AllowsNothing}
 use Rattle.gm_tools.specs.EdgeReadings.{ReadsAtMostPieces, refusal_before_piece}
-use Rattle.gm_tools.specs.Builds.{build_contract}
+use Rattle.gm_tools.specs.Builds.{BuildLeaves, BuildsPartly, KeepsOthers, build_contract}
 use Rattle.gm_tools.specs.Infos.{info_contract}
 use Rattle.gm_tools.specs.Tools.{IfTool}
 
@@ -55,6 +58,31 @@ build-allows_nothing command = record {
   };
   keeps = λ before. record { kept = inl refl };
 }
+
+part_kept : (command : BuildCommand) (old new : Outside) → BuildsPartly command old new → KeepsOthers command.grid old.depot new.depot
+part_kept command old new part = elim part.left [
+  | inl same ↦ record { kept = inl same }
+  | inr first ↦ record { kept = inr (first.added, first.held) }
+]
+
+-- a build changes no file but its grid, however it ends
+pub build-keeps_others : (command : BuildCommand) (old new : Outside) (result : Result ℕ Failure)
+    → Handles (build_contract command) old new result → KeepsOthers command.grid old.depot new.depot
+build-keeps_others command old new (Ok status) handled = record { kept = inr (built_file command.shape handled.performs.1.edges, handled.performs.1.built.file) }
+build-keeps_others command old new (Err failure) handled = by_failure failure handled.leaves
+  where
+    by_failure : (failure : Failure) → BuildLeaves command old new failure → KeepsOthers command.grid old.depot new.depot
+    by_failure (Refused refusal) left = record { kept = inl left.files }
+    by_failure (ReadFailed operand) left = record { kept = inl left.files }
+    by_failure (WriteFailed operand) left = part_kept command old new left.1
+    by_failure OutputFailed left = record { kept = inr (built_file command.shape left.edges, left.built.file) }
+    by_failure OutOfMemory left = elim left [
+      | inl nothing ↦ record { kept = inl nothing.files }
+      | inr some ↦ elim some [
+        | inl part ↦ part_kept command old new part
+        | inr built ↦ record { kept = inr (built_file command.shape built.edges, built.built.file) }
+      ]
+    ]
 
 pub info-allows_nothing : (command : InfoCommand) → AllowsNothing (info_contract command)
 info-allows_nothing command = record {
