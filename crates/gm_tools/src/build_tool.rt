@@ -40,11 +40,9 @@ pub fn run_build<D: Depot, K: Sink>(
     depot: &mut D,
     out: &mut K,
 ) -> Result<u8, Failure>
-    ensures handles {
-        Handles (build_contract (build_said command.now)) (outside (D.state depot.old) (K.state out.old))
+    ensures handles { Handles (build_contract (build_said command.now)) (outside (D.state depot.old) (K.state out.old))
         (outside (D.state depot.new) (K.state out.new)) result }
-    ensures pieces {
-        ReadsInPieces command.now.shape.n command.now.edges.now (D.state depot.old) (D.state depot.new) }
+    ensures pieces { ReadsInPieces command.now.shape.n command.now.edges.now (D.state depot.old) (D.state depot.new) }
     ensures asked { (D.state depot.new).sizes ≡ counted (D.state depot.old).sizes }
     ensures faults { (D.state depot.old).faults ≤ (D.state depot.new).faults }
     ensures out_faults { (K.state out.old).faults ≤ (K.state out.new).faults }

@@ -73,13 +73,10 @@ fn read_text<D: Depot>(
     requires some_vertex { 1 ≤ n }
     requires vertices { n ≤ MAX_VERTICES }
     requires size { IfSome (D.state depot.old).files (λ files. Some size ≡ size_of files name.now) }
-    ensures front {
-        IfOk result (λ reader. HasReadFront n (D.state depot.old).files name.now size size reader) }
+    ensures front { IfOk result (λ reader. HasReadFront n (D.state depot.old).files name.now size size reader) }
     ensures served { OnOk result (DepotServed (D.state depot.old) (D.state depot.new)) }
-    ensures err {
-        IfErr result (IsReadingFailure (edges_reading n name.now) (D.state depot.old) (D.state depot.new)) }
-    ensures unrefused {
-        IsUnrefusedBefore (edges_reading n name.now) (D.state depot.old) (D.state depot.new) Operand.Edges }
+    ensures err { IfErr result (IsReadingFailure (edges_reading n name.now) (D.state depot.old) (D.state depot.new)) }
+    ensures unrefused { IsUnrefusedBefore (edges_reading n name.now) (D.state depot.old) (D.state depot.new) Operand.Edges }
     ensures frame { OnlyReads 0 (div_ceil size TEXT_PIECE) (D.state depot.old) (D.state depot.new) }
 {
     let mut reader = EdgeReader::new(alloc, n);
@@ -100,13 +97,11 @@ pub(crate) fn list_edges<D: Depot>(
 ) -> Result<Edges, Failure>
     requires some_vertex { 1 ≤ n }
     requires vertices { n ≤ MAX_VERTICES }
-    ensures lists {
-        IfSome (D.state depot.old).files (λ files. IfOk result (λ edges. ListsEdges files name.now n edges)) }
+    ensures lists { IfSome (D.state depot.old).files (λ files. IfOk result (λ edges. ListsEdges files name.now n edges)) }
     ensures graph { IfOk result (λ edges. IsGraph n edges) }
     ensures few { IfOk result (λ edges. length edges ≤ MAX_EDGES) }
     ensures frame { OnlyReads 1 MAX_COUNT (D.state depot.old) (D.state depot.new) }
-    ensures reads {
-        ReadsFiles 1 MAX_COUNT (edges_reading n name.now) (D.state depot.old) (D.state depot.new) result }
+    ensures reads { ReadsFiles 1 MAX_COUNT (edges_reading n name.now) (D.state depot.old) (D.state depot.new) result }
     ensures pieces { ReadsInPieces n name.now (D.state depot.old) (D.state depot.new) }
 {
     let size = file_size(depot, name, Operand::Edges)?;

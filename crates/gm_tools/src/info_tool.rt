@@ -57,8 +57,7 @@ pub fn run_info<D: Depot, K: Sink>(
 ) -> Result<u8, Failure>
     requires some { 1 ≤ command.now.chunk }
     requires short { command.now.chunk ≤ MAX_CHUNK_SIZE }
-    ensures handles {
-        Handles (info_contract (info_said command.now)) (outside (D.state depot.old) (K.state out.old))
+    ensures handles { Handles (info_contract (info_said command.now)) (outside (D.state depot.old) (K.state out.old))
         (outside (D.state depot.new) (K.state out.new)) result }
     ensures frame { OnlyReads 1 (2 + MAX_CHUNKS) (D.state depot.old) (D.state depot.new) }
     ensures chunks { OpensFew command.now.grid.now command.now.chunk (D.state depot.old) (D.state depot.new) }
