@@ -2,9 +2,10 @@
 use Rattle.std.specs.Prelude.{◌≡◌, ℕ, ◌+◌, ◌≤◌, Bool, true, false, ◌||◌, if◌then◌else◌, ◌<◌, length, IsTrue, Option, Some, None, IfSome, IsSomeAnd, vec_len, Result, OnOk, IfErr, List}
 use Rattle.std.specs.Option.{option_or}
 use Rattle.std.specs.FinMap.{get}
-use Rattle.gm_outside.specs.Causes.{Rose, counted}
+use Rattle.gm_outside.specs.Causes.{Rose, counted, counted_times}
 use Rattle.gm_outside.specs.Files.{Files}
-use Rattle.gm_outside.specs.Frames.{DepotChange, OnlyReads}
+use Rattle.gm_outside.specs.Frames.{OnlyReads}
+use Rattle.gm_outside.specs.States.{DepotState}
 use Rattle.gm_commands.specs.declared.files.FileText.{FileText}
 use Rattle.gm_commands.specs.declared.files.FileText.TheVariants.{Whole, Longer}
 use Rattle.gm_commands.specs.declared.failure.Operand.{Operand}
@@ -27,7 +28,12 @@ pub record Reading : Type 0 where
 
 -- a command that reads nothing
 abbrev pub no_reading : Reading
-no_reading = record { reads = λ operand. false; refusal = λ files. None; refusal_before = λ operand number files. None; fetches = false }
+no_reading = record {
+  reads = λ operand. false;
+  refusal = λ files. None;
+  refusal_before = λ operand number files. None;
+  fetches = false;
+}
 
 -- first one reading, and then the other where nothing was refused
 abbrev pub reading_then : Reading → Reading → Reading
@@ -63,37 +69,50 @@ abbrev pub AreTaken : Reading → Option Files → Type 0
 AreTaken reading files = IfSome files (λ held. reading.refusal held ≡ None)
 
 -- the depot failed, and it isn't calm
-abbrev pub DepotFailed : DepotChange → Type 0
-DepotFailed depot = Rose depot.faults depot.faults_now × (IsTrue depot.calm → ⊥)
+abbrev pub DepotFailed : DepotState → DepotState → Type 0
+DepotFailed old new = Rose old.faults new.faults × (IsTrue old.calm → ⊥)
 
 -- no call on the depot failed
-abbrev pub DepotServed : DepotChange → Type 0
-DepotServed depot = depot.faults_now ≡ depot.faults
+abbrev pub DepotServed : DepotState → DepotState → Type 0
+DepotServed old new = new.faults ≡ old.faults
 
 -- the same of a command that fetches nothing behind its reading
-abbrev pub ServedUnless : Bool → DepotChange → Type 0
-ServedUnless true depot = Unit {0}
-ServedUnless false depot = DepotServed depot
+abbrev pub ServedUnless : Bool → DepotState → DepotState → Type 0
+ServedUnless true old new = Unit {0}
+ServedUnless false old new = DepotServed old new
 
 -- where the files are told, what was known of them before each read so far, and when this file was asked for, isn't refused
-abbrev pub IsUnrefusedBefore : Reading → DepotChange → Operand → Type 0
-IsUnrefusedBefore reading depot operand = (number : ℕ) → depot.reads + number ≤ depot.reads_now
-    → IfSome depot.files (λ held. reading.refusal_before operand number held ≡ None)
+abbrev pub IsUnrefusedBefore : Reading → DepotState → DepotState → Operand → Type 0
+IsUnrefusedBefore reading old new operand = (number : ℕ) → old.reads + number ≤ new.reads
+    → IfSome old.files (λ held. reading.refusal_before operand number held ≡ None)
+
+-- the files' refusal is this one, where they are told
+abbrev pub AreRefused : Reading → Option Files → Refusal → Type 0
+AreRefused reading files refusal = IfSome files (λ held. reading.refusal held ≡ Some refusal)
 
 -- a failure that ends a reading: the files' refusal, a fault of the depot before any refusal, or want of memory
-abbrev pub IsReadingFailure : Reading → DepotChange → Failure → Type 0
-IsReadingFailure reading depot (Refused refusal) =
-    IsTrue (reading.reads (refused_operand refusal)) × DepotServed depot × IfSome depot.files (λ held. reading.refusal held ≡ Some refusal)
-IsReadingFailure reading depot (ReadFailed operand) = IsTrue (reading.reads operand) × DepotFailed depot × IsUnrefusedBefore reading depot operand
-IsReadingFailure reading depot (WriteFailed operand) = ⊥
-IsReadingFailure reading depot OutputFailed = ⊥
-IsReadingFailure reading depot OutOfMemory = DepotServed depot
+abbrev pub IsReadingFailure : Reading → DepotState → DepotState → Failure → Type 0
+IsReadingFailure reading old new (Refused refusal) =
+    IsTrue (reading.reads (refused_operand refusal)) × DepotServed old new × AreRefused reading old.files refusal
+IsReadingFailure reading old new (ReadFailed operand) =
+    IsTrue (reading.reads operand) × DepotFailed old new × IsUnrefusedBefore reading old new operand
+IsReadingFailure reading old new (WriteFailed operand) = ⊥
+IsReadingFailure reading old new OutputFailed = ⊥
+IsReadingFailure reading old new OutOfMemory = DepotServed old new
 
--- what a call answers that reads files by at most so many reads, and what it leaves
-pub record ReadsFiles {T : Type 0} (most : ℕ) (reading : Reading) (depot : DepotChange) (result : Result T Failure) : Type 0 where
-  pub frame : OnlyReads most depot
-  pub ok : OnOk result (AreTaken reading depot.files × DepotServed depot)
-  pub err : IfErr result (IsReadingFailure reading depot)
+-- calls that only read: they ask for a size at most so often, and make at most so many reads
+pub record ReadsWithin (asked most : ℕ) (old new : DepotState) : Type 0 where
+  pub questions : ℕ
+  pub few : questions ≤ asked
+  pub frame : OnlyReads questions most old new
+
+-- what a call answers that reads so many files by at most so many reads, and what it leaves: it asks for the size of each, once, up to
+-- the file at which it fails
+pub record ReadsFiles {T : Type 0} (files most : ℕ) (reading : Reading) (old new : DepotState) (result : Result T Failure) : Type 0 where
+  pub frame : ReadsWithin files most old new
+  pub ok : OnOk result (AreTaken reading old.files × DepotServed old new)
+  pub asked : OnOk result (new.sizes ≡ counted_times files old.sizes)
+  pub err : IfErr result (IsReadingFailure reading old new)
 
 -- what was read of a whole file, of which so many bytes were wanted at most: a longer one wasn't read
 abbrev pub IsTextOf : Option (List ℕ) → ℕ → FileText → Type 0

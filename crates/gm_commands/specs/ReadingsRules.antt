@@ -2,18 +2,18 @@
 use Rattle.std.specs.Prelude.{◌≡◌, ℕ, ◌+◌, ◌≤◌, Bool, true, false, ◌||◌, IsTrue, Option, Some, None, IfSome, Result, Ok, Err, IsErr, refl}
 use Rattle.std.specs.Result.{result_err}
 use Rattle.std.specs.Option.{option_or}
-use Rattle.std.proofs.Common.{◌∙◌, ap, subst, rules, arith}
-use Rattle.gm_outside.specs.declared.traits.Depot as Depot
+use Rattle.std.proofs.Common.{◌∙◌, ap, sym, subst, rules, arith}
 use Rattle.gm_outside.specs.Files.{Files}
-use Rattle.gm_outside.specs.Frames.{OnlyReads}
 use Rattle.gm_outside.specs.FramesRules.{only_reads-then, only_reads-more}
-use Rattle.gm_outside.specs.Calls.{depot_change}
+use Rattle.gm_outside.specs.Causes.{counted_times}
+use Rattle.gm_outside.specs.CausesRules.{counted_times-add}
+use Rattle.gm_outside.specs.States.{DepotState}
 use Rattle.gm_commands.specs.declared.failure.Operand.{Operand}
 use Rattle.gm_commands.specs.declared.failure.Refusal.{Refusal}
 use Rattle.gm_commands.specs.declared.failure.Failure.{Failure}
 use Rattle.gm_commands.specs.declared.failure.Failure.TheVariants.{Refused, ReadFailed, WriteFailed, OutputFailed, OutOfMemory}
 use Rattle.gm_commands.specs.Failures.{refused_operand}
-use Rattle.gm_commands.specs.Readings.{Reading, reading_then, AreTaken, IsReadingFailure, IsUnrefusedBefore, ReadsFiles}
+use Rattle.gm_commands.specs.Readings.{Reading, reading_then, AreTaken, IsReadingFailure, IsUnrefusedBefore, ReadsFiles, ReadsWithin}
 
 or_left : (a b : Bool) → IsTrue a → IsTrue (a || b)
 or_left true b is = is
@@ -51,84 +51,108 @@ before_second None first second operand number other taken = taken
 before_second (Some held) first second operand number other taken = rw other taken
 
 -- a failure of the first reading is one of both
-pub reading_failure-first : {D : Type 0} (g : Depot.Ghosts D) (old new : D) (first second : Reading) (failure : Failure)
-    → IsReadingFailure first (depot_change g old new) failure → IsReadingFailure (reading_then first second) (depot_change g old new) failure
-reading_failure-first g old new first second (Refused refusal) is =
-    (or_left (first.reads (refused_operand refusal)) (second.reads (refused_operand refusal)) is.0, is.1, first_refused (g.files old) first second refusal is.2)
-reading_failure-first g old new first second (ReadFailed operand) is =
-    (or_left (first.reads operand) (second.reads operand) is.0, is.1, λ number made. before_first (g.files old) first second operand number is.0 (is.2 number made))
-reading_failure-first g old new first second (WriteFailed operand) is = is
-reading_failure-first g old new first second OutputFailed is = is
-reading_failure-first g old new first second OutOfMemory is = is
+pub reading_failure-first : (old new : DepotState) (first second : Reading) (failure : Failure)
+    → IsReadingFailure first old new failure → IsReadingFailure (reading_then first second) old new failure
+reading_failure-first old new first second (Refused refusal) is =
+    (or_left (first.reads (refused_operand refusal)) (second.reads (refused_operand refusal)) is.0, is.1, first_refused old.files first second refusal is.2)
+reading_failure-first old new first second (ReadFailed operand) is =
+    (or_left (first.reads operand) (second.reads operand) is.0, is.1, λ number made. before_first old.files first second operand number is.0 (is.2 number made))
+reading_failure-first old new first second (WriteFailed operand) is = is
+reading_failure-first old new first second OutputFailed is = is
+reading_failure-first old new first second OutOfMemory is = is
 
 -- a failure of the second reading is one of both, where the first refused nothing and no call failed
-pub reading_failure-then : {D : Type 0} (g : Depot.Ghosts D) (old mid new : D) (most : ℕ) (first second : Reading) (failure : Failure)
-    → AreApart first second → OnlyReads most (depot_change g old mid) → AreTaken first (g.files old) → g.faults mid ≡ g.faults old
-    → IsReadingFailure second (depot_change g mid new) failure → IsReadingFailure (reading_then first second) (depot_change g old new) failure
-reading_failure-then g old mid new most first second (Refused refusal) apart frame taken served is = (
+pub reading_failure-then : (old mid new : DepotState) (first second : Reading) (failure : Failure)
+    → AreApart first second → mid.files ≡ old.files → mid.calm ≡ old.calm → AreTaken first old.files → mid.faults ≡ old.faults
+    → IsReadingFailure second mid new failure → IsReadingFailure (reading_then first second) old new failure
+reading_failure-then old mid new first second (Refused refusal) apart files calm taken served is = (
   or_right (first.reads (refused_operand refusal)) (second.reads (refused_operand refusal)) is.0,
   is.1 ∙ served,
-  then_refused (g.files old) first second (Some refusal) taken
-      (subst (λ (told : Option Files). IfSome told (λ held. second.refusal held ≡ Some refusal)) frame.files_kept is.2),
+  then_refused old.files first second (Some refusal) taken
+      (subst (λ (told : Option Files). IfSome told (λ held. second.refusal held ≡ Some refusal)) files is.2),
 )
-reading_failure-then g old mid new most first second (ReadFailed operand) apart frame taken served is = (
+reading_failure-then old mid new first second (ReadFailed operand) apart files calm taken served is = (
   or_right (first.reads operand) (second.reads operand) is.0,
-  (omega (arith, is.1.0, served), λ calm. is.1.1 (frame.calm_kept ∙ calm)),
-  λ number made. before_second (g.files old) first second operand number (apart operand is.0) taken,
+  (omega (arith, is.1.0, served), λ is_calm. is.1.1 (calm ∙ is_calm)),
+  λ number made. before_second old.files first second operand number (apart operand is.0) taken,
 )
-reading_failure-then g old mid new most first second (WriteFailed operand) apart frame taken served is = is
-reading_failure-then g old mid new most first second OutputFailed apart frame taken served is = is
-reading_failure-then g old mid new most first second OutOfMemory apart frame taken served is = is ∙ served
+reading_failure-then old mid new first second (WriteFailed operand) apart files calm taken served is = is
+reading_failure-then old mid new first second OutputFailed apart files calm taken served is = is
+reading_failure-then old mid new first second OutOfMemory apart files calm taken served is = is ∙ served
+
+-- one call and then another
+reads_within-then : (asked few asked_then more : ℕ) (old mid new : DepotState)
+    → ReadsWithin asked few old mid → ReadsWithin asked_then more mid new → ReadsWithin (asked + asked_then) (few + more) old new
+reads_within-then asked few asked_then more old mid new a b = record {
+  questions = a.questions + b.questions;
+  few = omega (arith, a.few, b.few);
+  frame = only_reads-then a.questions few b.questions more old mid new a.frame b.frame;
+}
+
+-- a looser bound
+reads_within-more : (asked few asked_all most : ℕ) (old new : DepotState) → asked ≤ asked_all → few ≤ most
+    → ReadsWithin asked few old new → ReadsWithin asked_all most old new
+reads_within-more asked few asked_all most old new rarely le a = record {
+  questions = a.questions;
+  few = omega (arith, a.few);
+  frame = only_reads-more a.questions few most old new le a.frame;
+}
 
 -- the first of two readings failed
-pub reads_files-refused : {D X Y : Type 0} (g : Depot.Ghosts D) (old new : D) (few most : ℕ) (first second : Reading)
-    (before : Result X Failure) (after : Result Y Failure) → few ≤ most → IsErr before → result_err after ≡ result_err before
-    → ReadsFiles few first (depot_change g old new) before → ReadsFiles most (reading_then first second) (depot_change g old new) after
-reads_files-refused g old new few most first second (Ok x) after le is same a = absurd (search rules)
-reads_files-refused g old new few most first second (Err failure) (Ok y) le is same a = absurd cc
-reads_files-refused g old new few most first second (Err failure) (Err other) le is same a =
+pub reads_files-refused : {X Y : Type 0} (old new : DepotState) (one few files most : ℕ) (first second : Reading)
+    (before : Result X Failure) (after : Result Y Failure)
+    → one ≤ files → few ≤ most → IsErr before → result_err after ≡ result_err before
+    → ReadsFiles one few first old new before → ReadsFiles files most (reading_then first second) old new after
+reads_files-refused old new one few files most first second (Ok x) after fewer le is same a = absurd (search rules)
+reads_files-refused old new one few files most first second (Err failure) (Ok y) fewer le is same a = absurd cc
+reads_files-refused old new one few files most first second (Err failure) (Err other) fewer le is same a =
     let e : failure ≡ other = cc in
     record {
-      frame = only_reads-more g old new few most le a.frame;
+      frame = reads_within-more one few files most old new fewer le a.frame;
       ok = tt;
-      err = subst (IsReadingFailure (reading_then first second) (depot_change g old new)) e (reading_failure-first g old new first second failure a.err);
+      asked = tt;
+      err = subst (IsReadingFailure (reading_then first second) old new) e
+          (reading_failure-first old new first second failure a.err);
     }
 
 -- one reading, and then another
-pub reads_files-then : {D X T : Type 0} (g : Depot.Ghosts D) (old mid new : D) (few more : ℕ) (first second : Reading) (x : X)
+pub reads_files-then : {X T : Type 0} (old mid new : DepotState) (one few other more : ℕ) (first second : Reading) (x : X)
     (result : Result T Failure) → AreApart first second
-    → ReadsFiles few first (depot_change g old mid) (Ok x) → ReadsFiles more second (depot_change g mid new) result
-    → ReadsFiles (few + more) (reading_then first second) (depot_change g old new) result
-reads_files-then g old mid new few more first second x (Ok y) apart a b = record {
-  frame = only_reads-then g old mid new few more a.frame b.frame;
+    → ReadsFiles one few first old mid (Ok x) → ReadsFiles other more second mid new result
+    → ReadsFiles (one + other) (few + more) (reading_then first second) old new result
+reads_files-then old mid new one few other more first second x (Ok y) apart a b = record {
+  frame = reads_within-then one few other more old mid new a.frame b.frame;
   ok = (
-    then_refused (g.files old) first second None a.ok.0
-        (subst (λ (told : Option Files). IfSome told (λ held. second.refusal held ≡ None)) a.frame.files_kept b.ok.0),
+    then_refused old.files first second None a.ok.0
+        (subst (λ (told : Option Files). IfSome told (λ held. second.refusal held ≡ None)) a.frame.frame.files b.ok.0),
     b.ok.1 ∙ a.ok.1,
   );
+  asked = b.asked ∙ ap (counted_times other) a.asked ∙ sym (counted_times-add one other old.sizes);
   err = tt;
 }
-reads_files-then g old mid new few more first second x (Err failure) apart a b = record {
-  frame = only_reads-then g old mid new few more a.frame b.frame;
+reads_files-then old mid new one few other more first second x (Err failure) apart a b = record {
+  frame = reads_within-then one few other more old mid new a.frame b.frame;
   ok = tt;
-  err = reading_failure-then g old mid new few first second failure apart a.frame a.ok.0 a.ok.1 b.err;
+  asked = tt;
+  err = reading_failure-then old mid new first second failure apart
+      a.frame.frame.files a.frame.frame.calm a.ok.0 a.ok.1 b.err;
 }
 
 -- a failure of a part of a reading, behind parts in which no call failed, is one of the whole
-pub reading_failure-later : {D : Type 0} (g : Depot.Ghosts D) (old mid new : D) (most : ℕ) (reading : Reading) (failure : Failure)
-    → OnlyReads most (depot_change g old mid) → g.faults mid ≡ g.faults old
-    → ((operand : Operand) → IsTrue (reading.reads operand) → IsUnrefusedBefore reading (depot_change g old new) operand)
-    → IsReadingFailure reading (depot_change g mid new) failure → IsReadingFailure reading (depot_change g old new) failure
-reading_failure-later g old mid new most reading (Refused refusal) frame served unrefused is = (
+pub reading_failure-later : (old mid new : DepotState) (reading : Reading) (failure : Failure)
+    → mid.files ≡ old.files → mid.calm ≡ old.calm → mid.faults ≡ old.faults
+    → ((operand : Operand) → IsTrue (reading.reads operand) → IsUnrefusedBefore reading old new operand)
+    → IsReadingFailure reading mid new failure → IsReadingFailure reading old new failure
+reading_failure-later old mid new reading (Refused refusal) files calm served unrefused is = (
   is.0,
   is.1 ∙ served,
-  subst (λ (told : Option Files). IfSome told (λ held. reading.refusal held ≡ Some refusal)) frame.files_kept is.2,
+  subst (λ (told : Option Files). IfSome told (λ held. reading.refusal held ≡ Some refusal)) files is.2,
 )
-reading_failure-later g old mid new most reading (ReadFailed operand) frame served unrefused is =
-    (is.0, (omega (arith, is.1.0, served), λ calm. is.1.1 (frame.calm_kept ∙ calm)), unrefused operand is.0)
-reading_failure-later g old mid new most reading (WriteFailed operand) frame served unrefused is = is
-reading_failure-later g old mid new most reading OutputFailed frame served unrefused is = is
-reading_failure-later g old mid new most reading OutOfMemory frame served unrefused is = is ∙ served
+reading_failure-later old mid new reading (ReadFailed operand) files calm served unrefused is =
+    (is.0, (omega (arith, is.1.0, served), λ is_calm. is.1.1 (calm ∙ is_calm)), unrefused operand is.0)
+reading_failure-later old mid new reading (WriteFailed operand) files calm served unrefused is = is
+reading_failure-later old mid new reading OutputFailed files calm served unrefused is = is
+reading_failure-later old mid new reading OutOfMemory files calm served unrefused is = is ∙ served
 
 answers_same : (told : Option Files) (reading : Reading) (refusal : Files → Option Refusal) (answer : Option Refusal)
     → IfSome told (λ held. refusal held ≡ reading.refusal held)
@@ -137,26 +161,30 @@ answers_same None reading refusal answer equal is = is
 answers_same (Some held) reading refusal answer equal is = equal ∙ is
 
 -- the same reading by another refusal that is equal on these files
-pub reads_files-same : {D T : Type 0} (g : Depot.Ghosts D) (old new : D) (most : ℕ) (reading : Reading) (refusal : Files → Option Refusal)
-    (result : Result T Failure) → IfSome (g.files old) (λ held. refusal held ≡ reading.refusal held)
-    → ReadsFiles most reading (depot_change g old new) result → ReadsFiles most (record reading { refusal = refusal }) (depot_change g old new) result
-reads_files-same g old new most reading refusal (Ok x) equal a =
-    record { frame = a.frame; ok = (answers_same (g.files old) reading refusal None equal a.ok.0, a.ok.1); err = tt }
-reads_files-same g old new most reading refusal (Err failure) equal a =
-    record { frame = a.frame; ok = tt; err = same_failure failure a.err }
+pub reads_files-same : {T : Type 0} (old new : DepotState) (files most : ℕ) (reading : Reading) (refusal : Files → Option Refusal)
+    (result : Result T Failure) → IfSome old.files (λ held. refusal held ≡ reading.refusal held)
+    → ReadsFiles files most reading old new result → ReadsFiles files most (record reading { refusal = refusal }) old new result
+reads_files-same old new files most reading refusal (Ok x) equal a = record {
+  frame = a.frame;
+  ok = (answers_same old.files reading refusal None equal a.ok.0, a.ok.1);
+  asked = a.asked;
+  err = tt;
+}
+reads_files-same old new files most reading refusal (Err failure) equal a =
+    record { frame = a.frame; ok = tt; asked = tt; err = same_failure failure a.err }
   where
-    same_failure : (failure : Failure) → IsReadingFailure reading (depot_change g old new) failure
-        → IsReadingFailure (record reading { refusal = refusal }) (depot_change g old new) failure
-    same_failure (Refused reason) is = (is.0, is.1, answers_same (g.files old) reading refusal (Some reason) equal is.2)
+    same_failure : (failure : Failure) → IsReadingFailure reading old new failure
+        → IsReadingFailure (record reading { refusal = refusal }) old new failure
+    same_failure (Refused reason) is = (is.0, is.1, answers_same old.files reading refusal (Some reason) equal is.2)
     same_failure (ReadFailed operand) is = is
     same_failure (WriteFailed operand) is = is
     same_failure OutputFailed is = is
     same_failure OutOfMemory is = is
 
 -- after a reading that refused nothing memory was wanted
-pub reads_files-want : {D X T : Type 0} (g : Depot.Ghosts D) (old new : D) (most : ℕ) (reading : Reading) (x : X)
-    → ReadsFiles most reading (depot_change g old new) (Ok x) → ReadsFiles {T = T} most reading (depot_change g old new) (Err OutOfMemory)
-reads_files-want g old new most reading x a = record { frame = a.frame; ok = tt; err = a.ok.1 }
+pub reads_files-want : {X T : Type 0} (old new : DepotState) (files most : ℕ) (reading : Reading) (x : X)
+    → ReadsFiles files most reading old new (Ok x) → ReadsFiles {T = T} files most reading old new (Err OutOfMemory)
+reads_files-want old new files most reading x a = record { frame = a.frame; ok = tt; asked = tt; err = a.ok.1 }
 
 -- a call that reads nothing more, and takes what was read
 pub ruleset readings = (reading_failure-first, reading_failure-then, reading_failure-later, reads_files-refused, reads_files-then, reads_files-same, reads_files-want)

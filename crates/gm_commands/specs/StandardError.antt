@@ -2,7 +2,7 @@
 use Rattle.std.specs.Prelude.{◌≡◌, ℕ, ◌≤◌, List, [], ◌++◌, ◌⊎◌, codes, Option, Some, None}
 use Rattle.gm_outside.specs.Causes.{Rose}
 use Rattle.gm_outside.specs.Growth.{GrewBy, GrewByPrefix}
-use Rattle.gm_outside.specs.Frames.{SinkChange}
+use Rattle.gm_outside.specs.States.{SinkState}
 use Rattle.gm_output.specs.Lines.{end_of_line}
 use Rattle.gm_words.specs.Commands.{Command, run, build, info}
 use Rattle.gm_commands.specs.declared.failure.Operand.{Operand}
@@ -43,14 +43,16 @@ named_by command None = []
 abbrev pub error_line : Command → Failure → List ℕ
 error_line command failure = line_of (named_by command (operand_of failure) ++ text_of failure)
 
+-- a write failed, or found no memory
+abbrev pub GaveUp : SinkState → SinkState → Type 0
+GaveUp old new = Rose old.faults new.faults ⊎ Rose old.lacks new.lacks
+
 -- a line was said: all of it, or a first part where standard error failed or found no memory. Its counts never fall
-pub record IsSaid (line : List ℕ) (err : SinkChange) : Type 0 where
-  pub said : GrewBy err.held err.holds line ⊎ ((Rose err.faults err.faults_now ⊎ Rose err.lacks err.lacks_now) × GrewByPrefix err.held err.holds line)
-  pub faults_later : err.faults ≤ err.faults_now
-  pub lacks_later : err.lacks ≤ err.lacks_now
+pub record IsSaid (line : List ℕ) (old new : SinkState) : Type 0 where
+  pub said : GrewBy old.written new.written line ⊎ (GaveUp old new × GrewByPrefix old.written new.written line)
+  pub faults_later : old.faults ≤ new.faults
+  pub lacks_later : old.lacks ≤ new.lacks
 
 -- nothing was said
-pub record SaysNothing (err : SinkChange) : Type 0 where
-  pub held : err.holds ≡ err.held
-  pub faults : err.faults_now ≡ err.faults
-  pub lacks : err.lacks_now ≡ err.lacks
+abbrev pub SaysNothing : SinkState → SinkState → Type 0
+SaysNothing old new = new ≡ old

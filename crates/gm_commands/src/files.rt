@@ -2,8 +2,8 @@
 
 ghost use Rattle.std.specs.Prelude.{◌≡◌, IfOk, IfSome, None, Some};
 ghost use Rattle.std.specs.FinMap as map;
-ghost use Rattle.gm_outside.specs.Calls.{depot_change};
 ghost use Rattle.gm_outside.specs.Files.{size_of};
+ghost use Rattle.gm_outside.specs.Frames.{OnlyReads};
 ghost use Rattle.gm_commands.specs.Readings.{ReadsFiles, reading_of_file, IsTextOf, IsWithin, reads_of_text};
 
 use crate::failure::{Failure, Operand, Refusal};
@@ -22,9 +22,12 @@ pub enum FileText {
 /// How many bytes a file has that a command reads. `Missing` where the depot tells that there is none, `ReadFailed` where it failed,
 /// both of this operand; else `OutOfMemory`.
 pub fn file_size<D: Depot>(depot: &mut D, name: &str, operand: Operand) -> Result<u64, Failure>
-    ensures size { IfSome (D.files depot.old) (λ files. IfOk result (λ size. Some size ≡ size_of files name.now)) }
-    ensures no_read { D.reads depot.new ≡ D.reads depot.old }
-    ensures reads { ReadsFiles 0 (reading_of_file operand name.now (λ bytes. None)) (depot_change ⟦<D as Depot>⟧ depot.old depot.new) result }
+    ensures size { IfSome (D.state depot.old).files (λ files. IfOk result (λ size. Some size
+        ≡ size_of files name.now)) }
+    ensures frame { OnlyReads 1 0 (D.state depot.old) (D.state depot.new) }
+    ensures no_read { (D.state depot.new).reads ≡ (D.state depot.old).reads }
+    ensures reads { ReadsFiles 1 0 (reading_of_file operand name.now (λ bytes. None))
+        (D.state depot.old) (D.state depot.new) result }
 {
     match depot.size(name) {
         Ok(Some(size)) => Ok(size),
@@ -42,10 +45,13 @@ pub fn read_file<D: Depot>(
     operand: Operand,
     most: u64,
 ) -> Result<FileText, Failure>
-    ensures text { IfSome (D.files depot.old) (λ files. IfOk result (λ text. IsTextOf (map.get files name.now) most text)) }
+    ensures text { IfSome (D.state depot.old).files (λ files. IfOk result (λ text. IsTextOf (map.get files name.now) most text)) }
     ensures bounded { IfOk result (IsWithin most) }
-    ensures read { IfOk result (λ text. D.reads depot.new ≡ reads_of_text text (D.reads depot.old)) }
-    ensures reads { ReadsFiles 1 (reading_of_file operand name.now (λ bytes. None)) (depot_change ⟦<D as Depot>⟧ depot.old depot.new) result }
+    ensures read { IfOk result (λ text. (D.state depot.new).reads
+        ≡ reads_of_text text (D.state depot.old).reads) }
+    ensures frame { OnlyReads 1 1 (D.state depot.old) (D.state depot.new) }
+    ensures reads { ReadsFiles 1 1 (reading_of_file operand name.now (λ bytes. None))
+        (D.state depot.old) (D.state depot.new) result }
 {
     let size = file_size(depot, name, operand)?;
     if size > most {

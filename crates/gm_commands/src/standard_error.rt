@@ -1,7 +1,6 @@
 //! The one line on standard error, and the status that goes with it.
 
 ghost use Rattle.std.specs.Prelude.{◌≡◌, IfOk, IfErr, OnOk};
-ghost use Rattle.gm_outside.specs.Calls.{sink_change};
 ghost use Rattle.gm_output.specs.Pieces.{texts_of};
 ghost use Rattle.gm_words.specs.Commands.{said};
 ghost use Rattle.gm_commands.specs.Failures.{status_of};
@@ -21,7 +20,7 @@ const USAGE: &[u8] =
 
 /// Says the line that these texts are. Where standard error fails, a first part of it was written.
 fn say_texts<E: Sink>(err: &mut E, texts: &[&[u8]])
-    ensures { IsSaid (texts_of texts.now) (sink_change ⟦<E as Sink>⟧ err.old err.new) }
+    ensures { IsSaid (texts_of texts.now) (E.state err.old) (E.state err.new) }
 {
     let written = write_texts(err, texts);
     match written {
@@ -34,7 +33,7 @@ fn say_texts<E: Sink>(err: &mut E, texts: &[&[u8]])
 /// Says how the program is called, as [`conclude`] says a failure.
 #[tactic(auto, unfolding(crate::specs::StandardError::usage_line))]
 pub fn say_usage<E: Sink>(err: &mut E)
-    ensures { IsSaid usage_line (sink_change ⟦<E as Sink>⟧ err.old err.new) }
+    ensures { IsSaid usage_line (E.state err.old) (E.state err.new) }
 {
     say_texts(err, &[PROGRAM, USAGE, b"\n"]);
 }
@@ -42,7 +41,7 @@ pub fn say_usage<E: Sink>(err: &mut E)
 /// Says that there was no memory, before the words were known.
 #[tactic(auto, unfolding(crate::specs::StandardError::out_of_memory_line))]
 pub fn say_out_of_memory<E: Sink>(err: &mut E)
-    ensures { IsSaid out_of_memory_line (sink_change ⟦<E as Sink>⟧ err.old err.new) }
+    ensures { IsSaid out_of_memory_line (E.state err.old) (E.state err.new) }
 {
     say_texts(err, &[PROGRAM, b"out of memory\n"]);
 }
@@ -63,7 +62,7 @@ fn word_of<'a>(command: &Command<'a>, operand: Operand) -> &'a str
 
 /// Says why a command failed, by its words for its files.
 fn say<E: Sink>(err: &mut E, command: &Command<'_>, failure: Failure)
-    ensures { IsSaid (error_line (said command.now) failure) (sink_change ⟦<E as Sink>⟧ err.old err.new) }
+    ensures { IsSaid (error_line (said command.now) failure) (E.state err.old) (E.state err.new) }
 {
     let text = text_of(failure);
     match failure.operand() {
@@ -78,9 +77,10 @@ fn say<E: Sink>(err: &mut E, command: &Command<'_>, failure: Failure)
 /// The status of a command that ended so. Where it failed its line is said, and else nothing.
 pub fn conclude<E: Sink>(err: &mut E, command: &Command<'_>, outcome: Result<u8, Failure>) -> u8
     ensures status { IfOk outcome (λ status. result ≡ status) }
-    ensures silence { OnOk outcome (SaysNothing (sink_change ⟦<E as Sink>⟧ err.old err.new)) }
+    ensures silence { OnOk outcome (SaysNothing (E.state err.old) (E.state err.new)) }
     ensures failed { IfErr outcome (λ failure. result ≡ status_of failure) }
-    ensures line { IfErr outcome (λ failure. IsSaid (error_line (said command.now) failure) (sink_change ⟦<E as Sink>⟧ err.old err.new)) }
+    ensures line { IfErr outcome (λ failure.
+        IsSaid (error_line (said command.now) failure) (E.state err.old) (E.state err.new)) }
 {
     match outcome {
         Ok(status) => status,

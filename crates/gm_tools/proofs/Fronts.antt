@@ -9,7 +9,7 @@ use Rattle.std.proofs.lemmas.Grind.{div_ceil_times}
 use Rattle.std.proofs.Math.Seq.{take-add, take-length}
 use Rattle.gm_base.specs.declared.edge.Edge.{Edge}
 use Rattle.gm_outside.specs.Files.{Files, size_of, HasBytesAt}
-use Rattle.gm_outside.specs.Frames.{DepotChange}
+use Rattle.gm_outside.specs.States.{DepotState}
 use Rattle.gm_edges.specs.declared.edge_error.EdgeError.{EdgeError}
 use Rattle.gm_edges.specs.declared.edge_error.EdgeListRefusal.{EdgeListRefusal}
 use Rattle.gm_edges.specs.EdgeText.{edge_list_of, ended_edges_of}
@@ -86,10 +86,10 @@ refused_in_files : (n : ℕ) (files : Option Files) (name : List ℕ) (refusal :
 refused_in_files n None name refusal r = tt
 refused_in_files n (Some held) name refusal r = ap (edges_refusal n) r.1 ∙ ap list_refusal r.2
 
-refused_by : (n : ℕ) (name : List ℕ) (depot : DepotChange) (found : Option EdgeListRefusal) → DepotServed depot
-    → IfSome depot.files (Refuses n name found) → IsReadingFailure (edges_reading n name) depot (failure_by found)
-refused_by n name depot None served r = served
-refused_by n name depot (Some refusal) served r = (refl, served, refused_in_files n depot.files name refusal r)
+refused_by : (n : ℕ) (name : List ℕ) (old new : DepotState) (found : Option EdgeListRefusal) → DepotServed old new
+    → IfSome old.files (Refuses n name found) → IsReadingFailure (edges_reading n name) old new (failure_by found)
+refused_by n name old new None served r = served
+refused_by n name old new (Some refusal) served r = (refl, served, refused_in_files n old.files name refusal r)
 
 -- a front, a piece behind it and the rest are the whole file
 refused_of : (n size pos : ℕ) (text piece : List ℕ) (error : EdgeError) (found : Option (List ℕ))
@@ -119,14 +119,14 @@ refused_in n size pos text piece error (Some held) name there front decides =
     refused_of n size pos text piece error (get held name) there front decides
 
 -- a reader's refusal at a piece is the refusal of the file
-pub refused_at_piece : (n size pos : ℕ) (name piece : List ℕ) (depot : DepotChange) (error : EdgeError) (reader : ReaderState)
-    → DepotServed depot → IfSome depot.files (λ held. HasBytesAt held name pos piece)
+pub refused_at_piece : (n size pos : ℕ) (name piece : List ℕ) (old new : DepotState) (error : EdgeError) (reader : ReaderState)
+    → DepotServed old new → IfSome old.files (λ held. HasBytesAt held name pos piece)
     → ((m : ℕ) (text rest : List ℕ) → HasRead m text reader → IsRefusalUnlessMemory {A = List Edge} error (edge_list_of (text ++ piece ++ rest) m))
-    → HasReadFront n depot.files name size pos reader
-    → IsReadingFailure (edges_reading n name) depot (failure_of error)
-refused_at_piece n size pos name piece depot error reader served there decides front =
-    refused_by n name depot (refusal_of error) served
-    (refused_in n size pos front.text piece error depot.files name there front.front (λ rest. decides n front.text rest front.read))
+    → HasReadFront n old.files name size pos reader
+    → IsReadingFailure (edges_reading n name) old new (failure_of error)
+refused_at_piece n size pos name piece old new error reader served there decides front =
+    refused_by n name old new (refusal_of error) served
+    (refused_in n size pos front.text piece error old.files name there front.front (λ rest. decides n front.text rest front.read))
 
 -- what was read of a file of this size is the whole file
 whole_of : (size : ℕ) (text : List ℕ) (found : Option (List ℕ))
@@ -157,12 +157,12 @@ listed_at_end n size files name edges reader answers front =
     listed n front.text files name edges (whole_in size front.text files name front.front) (answers n front.text front.read)
 
 -- a refusal of a reader of the whole file is the refusal of the file
-pub refused_at_end : (n size : ℕ) (name : List ℕ) (depot : DepotChange) (error : EdgeError) (reader : ReaderState) → DepotServed depot
+pub refused_at_end : (n size : ℕ) (name : List ℕ) (old new : DepotState) (error : EdgeError) (reader : ReaderState) → DepotServed old new
     → ((m : ℕ) (text : List ℕ) → HasRead m text reader → IsRefusalUnlessMemory {A = List Edge} error (edge_list_of text m))
-    → HasReadFront n depot.files name size size reader → IsReadingFailure (edges_reading n name) depot (failure_of error)
-refused_at_end n size name depot error reader served answers front =
-    refused_by n name depot (refusal_of error) served
-    (refuses n front.text depot.files name error (whole_in size front.text depot.files name front.front) (answers n front.text front.read))
+    → HasReadFront n old.files name size size reader → IsReadingFailure (edges_reading n name) old new (failure_of error)
+refused_at_end n size name old new error reader served answers front =
+    refused_by n name old new (refusal_of error) served
+    (refuses n front.text old.files name error (whole_in size front.text old.files name front.front) (answers n front.text front.read))
 
 -- files that list edges aren't refused
 pub taken_where_listed : (n : ℕ) (files : Option Files) (name : List ℕ) (edges : List Edge) → IfSome files (λ held. ListsEdges held name n edges)

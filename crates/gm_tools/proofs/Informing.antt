@@ -1,19 +1,22 @@
--- What follows of a grid that was opened.
+-- What follows of a grid that was opened or built, where its output is written.
 use Rattle.std.proofs.Common.{◌≡◌, ℕ, List, length, Option, Some, None, Ok, Err, refl, ◌∙◌, inr}
 use Rattle.std.specs.Prelude.{IsSomeAnd, sum_by}
 use Rattle.std.specs.FinMap.{get}
 use Rattle.gm_outside.specs.declared.traits.Trouble.{Trouble}
 use Rattle.gm_outside.specs.declared.traits.Trouble.TheVariants as troubles
 use Rattle.gm_outside.specs.Files.{Files}
-use Rattle.gm_outside.specs.Frames.{DepotChange, SinkChange, Writes}
+use Rattle.gm_outside.specs.Frames.{Writes}
 use Rattle.gm_grid.specs.GridBytes.{edges_in}
 use Rattle.gm_label.specs.Catalogues.{Catalogue}
 use Rattle.gm_source.specs.Openings.{IsTold, IsCatalogueOf}
 use Rattle.gm_commands.specs.declared.failure.Failure.TheVariants.{OutputFailed}
 use Rattle.gm_commands.specs.Failures.{failed_by}
-use Rattle.gm_words.specs.Commands.{InfoCommand}
+use Rattle.gm_words.specs.Commands.{BuildCommand, InfoCommand}
 use Rattle.gm_commands.specs.Readings.{AreTaken, DepotServed}
-use Rattle.gm_tools.specs.Infos.{info_reading, IsOfGrid, InfoHandles, text_of_catalogue}
+use Rattle.gm_commands.specs.Endings.{Handles, Outside}
+use Rattle.gm_base.specs.declared.edge.Edge.{Edge}
+use Rattle.gm_tools.specs.Builds.{AreEdges, MakesGrid, build_contract, output_of}
+use Rattle.gm_tools.specs.Infos.{IsOfGrid, info_contract, text_of_catalogue}
 
 -- what a law says of files that have a catalogue
 abbrev pub Counts : Catalogue → ℕ → Type 0
@@ -30,10 +33,10 @@ of_grid None command edges cat is law told = tt
 of_grid (Some held) command edges cat is law told = of_found (get held command.grid) command.chunk edges cat is law told
 
 -- the numbers were written, or a first part of them
-pub informed : (command : InfoCommand) (depot : DepotChange) (out : SinkChange) (cat : Catalogue) (edges : ℕ) → AreTaken (info_reading command) depot.files
-    → IsOfGrid command depot.files cat edges → DepotServed depot → Writes {T = Unit {0}} (text_of_catalogue cat edges) out (Ok (tt {0}))
-    → InfoHandles command depot out (Ok 0)
-informed command depot out cat edges unrefused is served written = record {
+pub informed : (command : InfoCommand) (old new : Outside) (cat : Catalogue) (edges : ℕ)
+    → AreTaken (info_contract command).reading old.depot.files → IsOfGrid command old.depot.files cat edges → DepotServed old.depot new.depot
+    → Writes {T = Unit {0}} (text_of_catalogue cat edges) old.out new.out (Ok (tt {0})) → Handles (info_contract command) old new (Ok 0)
+informed command old new cat edges unrefused is served written = record {
   taken = unrefused;
   performs = (refl, record { cat = cat; edges = edges; is = is; written = written.ok });
   served = (served, written.causes.fault.kept (λ is. cc));
@@ -41,20 +44,42 @@ informed command depot out cat edges unrefused is served written = record {
   leaves = tt;
 }
 
-pub informed_partly : (command : InfoCommand) (depot : DepotChange) (out : SinkChange) (cat : Catalogue) (edges : ℕ) (trouble : Trouble)
-    → AreTaken (info_reading command) depot.files → IsOfGrid command depot.files cat edges → DepotServed depot
-    → Writes {T = Unit {0}} (text_of_catalogue cat edges) out (Err trouble) → InfoHandles command depot out (Err (failed_by OutputFailed trouble))
-informed_partly command depot out cat edges troubles.Failed unrefused is served written = record {
+pub informed_partly : (command : InfoCommand) (old new : Outside) (cat : Catalogue) (edges : ℕ) (trouble : Trouble)
+    → AreTaken (info_contract command).reading old.depot.files → IsOfGrid command old.depot.files cat edges → DepotServed old.depot new.depot
+    → Writes {T = Unit {0}} (text_of_catalogue cat edges) old.out new.out (Err trouble)
+    → Handles (info_contract command) old new (Err (failed_by OutputFailed trouble))
+informed_partly command old new cat edges troubles.Failed unrefused is served written = record {
   taken = tt;
   performs = tt;
   served = tt;
   cause = (written.causes.fault.failed refl, unrefused, served);
   leaves = record { cat = cat; edges = edges; is = is; written = written.err };
 }
-informed_partly command depot out cat edges troubles.Memory unrefused is served written = record {
+informed_partly command old new cat edges troubles.Memory unrefused is served written = record {
   taken = tt;
   performs = tt;
   served = tt;
   cause = (served, written.causes.fault.kept (λ is. absurd cc));
   leaves = inr (record { cat = cat; edges = edges; is = is; written = written.err });
+}
+
+-- the grid was built, and of the output only a first part was written
+pub built_partly : (command : BuildCommand) (old new : Outside) (edges : List Edge) (trouble : Trouble)
+    → AreTaken (build_contract command).reading old.depot.files → AreEdges command old.depot.files edges
+    → MakesGrid command old.depot new.depot edges → DepotServed old.depot new.depot
+    → Writes {T = Unit {0}} (output_of command edges) old.out new.out (Err trouble)
+    → Handles (build_contract command) old new (Err (failed_by OutputFailed trouble))
+built_partly command old new edges troubles.Failed taken lists built served written = record {
+  taken = tt;
+  performs = tt;
+  served = tt;
+  cause = (written.causes.fault.failed refl, taken, served);
+  leaves = record { edges = edges; lists = lists; built = built; written = written.err };
+}
+built_partly command old new edges troubles.Memory taken lists built served written = record {
+  taken = tt;
+  performs = tt;
+  served = tt;
+  cause = (served, written.causes.fault.kept (λ is. absurd cc));
+  leaves = inr (inr (record { edges = edges; lists = lists; built = built; written = written.err }));
 }

@@ -1,10 +1,10 @@
 -- How a build reads its file of edges: piece by piece, up to the first refused line.
-use Rattle.std.specs.Prelude.{◌≡◌, false, ℕ, ◌+◌, ◌-◌, ◌*◌, ◌≤◌, List, length, take, Option, Some, None, Result, Ok, Err, IfSome, IsSomeAnd, IsOk, MatchOption}
+use Rattle.std.specs.Prelude.{◌≡◌, false, ℕ, ◌+◌, ◌-◌, ◌*◌, ◌≤◌, List, length, take, Option, Some, None, Result, Ok, Err, IfSome, IsSomeAnd, IsOk}
 use Rattle.std.specs.Int.{div_ceil}
 use Rattle.std.specs.FinMap.{get}
 use Rattle.gm_base.specs.declared.edge.Edge.{Edge}
 use Rattle.gm_outside.specs.Files.{Files}
-use Rattle.gm_outside.specs.Frames.{DepotChange}
+use Rattle.gm_outside.specs.States.{DepotState}
 use Rattle.gm_edges.specs.declared.edge_error.EdgeError.{EdgeError}
 use Rattle.gm_edges.specs.declared.edge_error.EdgeListRefusal.{EdgeListRefusal}
 use Rattle.gm_edges.specs.EdgeText.{edge_list_of, ended_edges_of}
@@ -42,11 +42,17 @@ edges_reading n name = record {
   fetches = false;
 }
 
--- the file is read by at most as many reads as it has pieces, up to and with the one in which its first refused line ends
-pub record ReadsInPieces (n : ℕ) (name : List ℕ) (depot : DepotChange) : Type 0 where
-  pub few : IfSome depot.files (λ held. MatchOption (get held name) (depot.reads_now ≡ depot.reads)
-      (λ text. depot.reads_now ≤ depot.reads + div_ceil (length text) TEXT_PIECE))
-  pub unrefused : IsUnrefusedBefore (edges_reading n name) depot Edges
+-- no read was made of a file that isn't there, and at most one for each piece of a text
+abbrev pub ReadsAtMostPieces : DepotState → DepotState → Option (List ℕ) → Type 0
+ReadsAtMostPieces old new None = new.reads ≡ old.reads
+ReadsAtMostPieces old new (Some text) = new.reads ≤ old.reads + div_ceil (length text) TEXT_PIECE
+
+-- The file's size is asked for once at most. It is read by at most as many reads as it has pieces, up to and with the one in which its
+-- first refused line ends.
+pub record ReadsInPieces (n : ℕ) (name : List ℕ) (old new : DepotState) : Type 0 where
+  pub asked : new.sizes ≤ old.sizes + 1
+  pub few : IfSome old.files (λ held. ReadsAtMostPieces old new (get held name))
+  pub unrefused : IsUnrefusedBefore (edges_reading n name) old new Edges
 
 abbrev pub failure_by : Option EdgeListRefusal → Failure
 failure_by (Some refusal) = Refused (EdgeList refusal)

@@ -3,3 +3,4 @@ pub mod Builds
 pub mod Grids
 pub mod Infos
 pub mod Tools
+pub mod ToolsRules

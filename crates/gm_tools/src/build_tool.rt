@@ -1,10 +1,11 @@
 //! One build: the edges of the text, the grid's file and the output.
 
 ghost use Rattle.std.specs.Prelude.{◌≡◌, ◌≤◌};
-ghost use Rattle.gm_outside.specs.Calls.{depot_change, sink_change};
+ghost use Rattle.gm_outside.specs.Causes.{counted};
 ghost use Rattle.gm_words.specs.Commands.{build_said};
+ghost use Rattle.gm_commands.specs.Endings.{outside, Handles};
 ghost use Rattle.gm_tools.specs.EdgeReadings.{ReadsInPieces};
-ghost use Rattle.gm_tools.specs.Builds.{output_text, BuildHandles};
+ghost use Rattle.gm_tools.specs.Builds.{output_text, build_contract};
 
 use crate::edge_reading::list_edges;
 use gm_base::Edges;
@@ -39,17 +40,20 @@ pub fn run_build<D: Depot, K: Sink>(
     depot: &mut D,
     out: &mut K,
 ) -> Result<u8, Failure>
-    ensures handles { BuildHandles (build_said command.now) (depot_change ⟦<D as Depot>⟧ depot.old depot.new) (sink_change ⟦<K as Sink>⟧ out.old out.new) result }
-    ensures pieces { ReadsInPieces command.now.shape.n command.now.edges.now (depot_change ⟦<D as Depot>⟧ depot.old depot.new) }
-    ensures faults { D.faults depot.old ≤ D.faults depot.new }
-    ensures out_faults { K.faults out.old ≤ K.faults out.new }
-    ensures calm { D.calm depot.new ≡ D.calm depot.old }
+    ensures handles { Handles (build_contract (build_said command.now)) (outside (D.state depot.old) (K.state out.old))
+        (outside (D.state depot.new) (K.state out.new)) result }
+    ensures pieces { ReadsInPieces command.now.shape.n command.now.edges.now (D.state depot.old) (D.state depot.new) }
+    ensures asked { (D.state depot.new).sizes ≡ counted (D.state depot.old).sizes }
+    ensures faults { (D.state depot.old).faults ≤ (D.state depot.new).faults }
+    ensures out_faults { (K.state out.old).faults ≤ (K.state out.new).faults }
+    ensures calm { (D.state depot.new).calm ≡ (D.state depot.old).calm }
 {
     let parts = command.shape.parts();
     let edges = list_edges(alloc, depot, command.edges, command.shape.n())?;
-    build(alloc, &edges, &command.shape, depot, command.grid).map_err(|trouble| WRITE_FAILED.by(
-        trouble,
-    ))?;
+    match build(alloc, &edges, &command.shape, depot, command.grid) {
+        Ok(()) => {}
+        Err(trouble) => return Err(WRITE_FAILED.by(trouble)),
+    }
     let output = output_line(edges.len(), parts * parts);
     match out.write(output.as_slice()) {
         Ok(()) => Ok(0),

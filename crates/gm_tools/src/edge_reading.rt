@@ -5,7 +5,6 @@ ghost use Rattle.std.specs.Int.{div_ceil};
 ghost use Rattle.gm_base.specs.declared.limits.TheConstants.{MAX_EDGES, MAX_VERTICES};
 ghost use Rattle.gm_base.specs.Graph.{IsGraph};
 ghost use Rattle.gm_outside.specs.declared.traits.TheConstants.{MAX_COUNT};
-ghost use Rattle.gm_outside.specs.Calls.{depot_change};
 ghost use Rattle.gm_outside.specs.Files.{size_of};
 ghost use Rattle.gm_outside.specs.Frames.{OnlyReads};
 ghost use Rattle.gm_commands.specs.Readings.{DepotServed, IsReadingFailure, IsUnrefusedBefore, ReadsFiles};
@@ -41,14 +40,15 @@ fn read_piece<D: Depot>(
     into: &mut [u8],
     reader: &mut EdgeReader,
 ) -> Result<(), Failure>
-    ensures front { (n size : ℕ) → HasReadFront n (D.files depot.old) name.now size pos reader.old
-        → OnOk result (HasReadFront n (D.files depot.old) name.now size (pos + length into.old) reader.new) }
-    ensures lines { (n size : ℕ) → HasReadFront n (D.files depot.old) name.now size pos reader.old
-        → OnOk result (AreLinesTaken n (D.files depot.old) name.now (pos + length into.old)) }
-    ensures err { (n size : ℕ) → HasReadFront n (D.files depot.old) name.now size pos reader.old → pos + length into.old ≤ size
-        → IfErr result (IsReadingFailure (edges_reading n name.now) (depot_change ⟦<D as Depot>⟧ depot.old depot.new)) }
-    ensures served { OnOk result (DepotServed (depot_change ⟦<D as Depot>⟧ depot.old depot.new)) }
-    ensures reads { OnlyReads 1 (depot_change ⟦<D as Depot>⟧ depot.old depot.new) }
+    ensures front { (n size : ℕ) → HasReadFront n (D.state depot.old).files name.now size pos reader.old
+        → OnOk result (HasReadFront n (D.state depot.old).files name.now size (pos + length into.old) reader.new) }
+    ensures lines { (n size : ℕ) → HasReadFront n (D.state depot.old).files name.now size pos reader.old
+        → OnOk result (AreLinesTaken n (D.state depot.old).files name.now (pos + length into.old)) }
+    ensures err { (n size : ℕ) → HasReadFront n (D.state depot.old).files name.now size pos reader.old
+        → pos + length into.old ≤ size
+        → IfErr result (IsReadingFailure (edges_reading n name.now) (D.state depot.old) (D.state depot.new)) }
+    ensures served { OnOk result (DepotServed (D.state depot.old) (D.state depot.new)) }
+    ensures frame { OnlyReads 0 1 (D.state depot.old) (D.state depot.new) }
 {
     match depot.read_at(name, pos, into) {
         Ok(()) => {}
@@ -72,12 +72,12 @@ fn read_text<D: Depot>(
     requires room { length buffer.old ≡ TEXT_PIECE }
     requires some_vertex { 1 ≤ n }
     requires vertices { n ≤ MAX_VERTICES }
-    requires size { IfSome (D.files depot.old) (λ files. Some size ≡ size_of files name.now) }
-    ensures front { IfOk result (λ reader. HasReadFront n (D.files depot.old) name.now size size reader) }
-    ensures served { OnOk result (DepotServed (depot_change ⟦<D as Depot>⟧ depot.old depot.new)) }
-    ensures err { IfErr result (IsReadingFailure (edges_reading n name.now) (depot_change ⟦<D as Depot>⟧ depot.old depot.new)) }
-    ensures unrefused { IsUnrefusedBefore (edges_reading n name.now) (depot_change ⟦<D as Depot>⟧ depot.old depot.new) Operand.Edges }
-    ensures reads { OnlyReads (div_ceil size TEXT_PIECE) (depot_change ⟦<D as Depot>⟧ depot.old depot.new) }
+    requires size { IfSome (D.state depot.old).files (λ files. Some size ≡ size_of files name.now) }
+    ensures front { IfOk result (λ reader. HasReadFront n (D.state depot.old).files name.now size size reader) }
+    ensures served { OnOk result (DepotServed (D.state depot.old) (D.state depot.new)) }
+    ensures err { IfErr result (IsReadingFailure (edges_reading n name.now) (D.state depot.old) (D.state depot.new)) }
+    ensures unrefused { IsUnrefusedBefore (edges_reading n name.now) (D.state depot.old) (D.state depot.new) Operand.Edges }
+    ensures frame { OnlyReads 0 (div_ceil size TEXT_PIECE) (D.state depot.old) (D.state depot.new) }
 {
     let mut reader = EdgeReader::new(alloc, n);
     for index in 0..size.div_ceil(TEXT_PIECE as u64) {
@@ -97,11 +97,12 @@ pub(crate) fn list_edges<D: Depot>(
 ) -> Result<Edges, Failure>
     requires some_vertex { 1 ≤ n }
     requires vertices { n ≤ MAX_VERTICES }
-    ensures lists { IfSome (D.files depot.old) (λ files. IfOk result (λ edges. ListsEdges files name.now n edges)) }
+    ensures lists { IfSome (D.state depot.old).files (λ files. IfOk result (λ edges. ListsEdges files name.now n edges)) }
     ensures graph { IfOk result (λ edges. IsGraph n edges) }
     ensures few { IfOk result (λ edges. length edges ≤ MAX_EDGES) }
-    ensures reads { ReadsFiles MAX_COUNT (edges_reading n name.now) (depot_change ⟦<D as Depot>⟧ depot.old depot.new) result }
-    ensures pieces { ReadsInPieces n name.now (depot_change ⟦<D as Depot>⟧ depot.old depot.new) }
+    ensures frame { OnlyReads 1 MAX_COUNT (D.state depot.old) (D.state depot.new) }
+    ensures reads { ReadsFiles 1 MAX_COUNT (edges_reading n name.now) (D.state depot.old) (D.state depot.new) result }
+    ensures pieces { ReadsInPieces n name.now (D.state depot.old) (D.state depot.new) }
 {
     let size = file_size(depot, name, Operand::Edges)?;
     let mut buffer = zeros(alloc, TEXT_PIECE)?;

@@ -2,9 +2,8 @@
 
 ghost use Rattle.std.specs.Prelude.{◌≡◌, ◌+◌, ◌≤◌, IfOk};
 ghost use Rattle.gm_base.specs.declared.limits.TheConstants.{MAX_CHUNKS, MAX_CHUNK_SIZE};
-ghost use Rattle.gm_outside.specs.Calls.{depot_change};
-ghost use Rattle.gm_outside.specs.Causes.{counted_times};
-ghost use Rattle.gm_source.specs.Openings.{IsTold, IsCatalogueOf, opening_reads};
+ghost use Rattle.gm_outside.specs.Frames.{OnlyReads};
+ghost use Rattle.gm_source.specs.Openings.{IsTold, IsCatalogueOf, ReadsJust, opening_reads};
 ghost use Rattle.gm_commands.specs.Readings.{ReadsFiles};
 ghost use Rattle.gm_tools.specs.Grids.{OpensFew, grid_reading, opening_failure};
 
@@ -36,10 +35,14 @@ pub fn load_grid<D: Depot>(
     chunk_size: u32,
 ) -> Result<Catalogue, Failure>
     requires { (1 ≤ chunk_size) × (chunk_size ≤ MAX_CHUNK_SIZE) }
-    ensures catalogue { IfOk result (λ cat. IsTold (D.files depot.old) name.now (λ bytes. IsCatalogueOf bytes chunk_size cat)) }
-    ensures read { IfOk result (λ cat. D.reads depot.new ≡ counted_times (opening_reads cat.places) (D.reads depot.old)) }
-    ensures few { OpensFew name.now chunk_size (depot_change ⟦<D as Depot>⟧ depot.old depot.new) }
-    ensures reads { ReadsFiles (2 + MAX_CHUNKS) (grid_reading name.now chunk_size) (depot_change ⟦<D as Depot>⟧ depot.old depot.new) result }
+    ensures catalogue { IfOk result (λ cat.
+        IsTold (D.state depot.old).files name.now (λ bytes. IsCatalogueOf bytes chunk_size cat)) }
+    ensures read { IfOk result (λ cat.
+        ReadsJust (opening_reads cat.places) (D.state depot.old) (D.state depot.new)) }
+    ensures frame { OnlyReads 1 (2 + MAX_CHUNKS) (D.state depot.old) (D.state depot.new) }
+    ensures few { OpensFew name.now chunk_size (D.state depot.old) (D.state depot.new) }
+    ensures reads { ReadsFiles 1 (2 + MAX_CHUNKS) (grid_reading name.now chunk_size)
+        (D.state depot.old) (D.state depot.new) result }
 {
     catalogued_files_are_grids();
     match open_grid(alloc, depot, name, chunk_size) {

@@ -1,11 +1,12 @@
 //! One info: the grid's numbers.
 
-ghost use Rattle.std.specs.Prelude.{◌≡◌, ◌≤◌, sum_by};
-ghost use Rattle.gm_base.specs.declared.limits.TheConstants.{MAX_CHUNK_SIZE};
-ghost use Rattle.gm_outside.specs.Calls.{depot_change, sink_change};
+ghost use Rattle.std.specs.Prelude.{◌≡◌, ◌+◌, ◌≤◌, sum_by};
+ghost use Rattle.gm_base.specs.declared.limits.TheConstants.{MAX_CHUNKS, MAX_CHUNK_SIZE};
+ghost use Rattle.gm_outside.specs.Frames.{OnlyReads};
 ghost use Rattle.gm_words.specs.Commands.{info_said};
+ghost use Rattle.gm_commands.specs.Endings.{outside, Handles};
 ghost use Rattle.gm_tools.specs.Grids.{OpensFew};
-ghost use Rattle.gm_tools.specs.Infos.{InfoHandles, info_text, text_of_catalogue};
+ghost use Rattle.gm_tools.specs.Infos.{info_contract, info_text, text_of_catalogue};
 
 use crate::grid_opening::load_grid;
 use gm_commands::Failure;
@@ -56,9 +57,11 @@ pub fn run_info<D: Depot, K: Sink>(
 ) -> Result<u8, Failure>
     requires some { 1 ≤ command.now.chunk }
     requires short { command.now.chunk ≤ MAX_CHUNK_SIZE }
-    ensures handles { InfoHandles (info_said command.now) (depot_change ⟦<D as Depot>⟧ depot.old depot.new) (sink_change ⟦<K as Sink>⟧ out.old out.new) result }
-    ensures chunks { OpensFew command.now.grid.now command.now.chunk (depot_change ⟦<D as Depot>⟧ depot.old depot.new) }
-    ensures out_faults { K.faults out.old ≤ K.faults out.new }
+    ensures handles { Handles (info_contract (info_said command.now)) (outside (D.state depot.old) (K.state out.old))
+        (outside (D.state depot.new) (K.state out.new)) result }
+    ensures frame { OnlyReads 1 (2 + MAX_CHUNKS) (D.state depot.old) (D.state depot.new) }
+    ensures chunks { OpensFew command.now.grid.now command.now.chunk (D.state depot.old) (D.state depot.new) }
+    ensures out_faults { (K.state out.old).faults ≤ (K.state out.new).faults }
 {
     catalogued_files_are_grids();
     let cat = load_grid(alloc, depot, command.grid, command.chunk)?;

@@ -1,10 +1,9 @@
 //! The call of the tools.
 
-ghost use Rattle.std.specs.Prelude.{◌≡◌, ◌≤◌, None, IfSome};
-ghost use Rattle.gm_outside.specs.Calls.{depot_change, sink_change};
+ghost use Rattle.std.specs.Prelude.{◌≡◌, false};
 ghost use Rattle.gm_words.specs.Commands.{command_of};
-ghost use Rattle.gm_commands.specs.Endings.{call_of, IsComplete, RefusesWords};
-ghost use Rattle.gm_tools.specs.Tools.{tool_in, tool_reading, ToolReads, ToolSucceeds, ToolFails, ToolKeepsOthers, IsToolStatus};
+ghost use Rattle.gm_commands.specs.Endings.{call_of, outside};
+ghost use Rattle.gm_tools.specs.Tools.{is_tool, KeepsToolPromises};
 
 use crate::build_tool::run_build;
 use crate::info_tool::run_info;
@@ -27,23 +26,9 @@ pub fn tool<D: Depot, K: Sink, E: Sink>(
     out: &mut K,
     err: &mut E,
 ) -> u8
-    ensures usage { result ≡ 2 → tool_in (command_of words.now) ≡ None }
-    ensures no_command { tool_in (command_of words.now) ≡ None → RefusesWords (call_of words.now (depot_change ⟦<D as Depot>⟧ depot.old depot.new)
-        (sink_change ⟦<K as Sink>⟧ out.old out.new) (sink_change ⟦<E as Sink>⟧ err.old err.new) result) }
-    ensures tool_output { result ≡ 0 → IfSome (tool_in (command_of words.now)) (λ command. ToolSucceeds command
-        (call_of words.now (depot_change ⟦<D as Depot>⟧ depot.old depot.new)
-        (sink_change ⟦<K as Sink>⟧ out.old out.new) (sink_change ⟦<E as Sink>⟧ err.old err.new) result)) }
-    ensures error_line { 3 ≤ result → IfSome (tool_in (command_of words.now)) (λ command. ToolFails command
-        (call_of words.now (depot_change ⟦<D as Depot>⟧ depot.old depot.new)
-        (sink_change ⟦<K as Sink>⟧ out.old out.new) (sink_change ⟦<E as Sink>⟧ err.old err.new) result)) }
-    ensures completeness { IfSome (tool_in (command_of words.now)) (λ command. IsComplete (tool_reading command) 0
-        (depot_change ⟦<D as Depot>⟧ depot.old depot.new) (sink_change ⟦<K as Sink>⟧ out.old out.new) result) }
-    ensures statuses { IsToolStatus result }
-    ensures files { IfSome (tool_in (command_of words.now)) (λ command. ToolKeepsOthers command (depot_change ⟦<D as Depot>⟧ depot.old depot.new)) }
-    ensures reads { IfSome (tool_in (command_of words.now)) (λ command. ToolReads command (depot_change ⟦<D as Depot>⟧ depot.old depot.new)) }
-    ensures faults { D.faults depot.old ≤ D.faults depot.new }
-    ensures out_faults { K.faults out.old ≤ K.faults out.new }
-    ensures calm { D.calm depot.new ≡ D.calm depot.old }
+    ensures usage { result ≡ 2 → is_tool (command_of words.now) ≡ false }
+    ensures keeps { KeepsToolPromises (call_of words.now (outside (D.state depot.old) (K.state out.old))
+        (outside (D.state depot.new) (K.state out.new)) (E.state err.old) (E.state err.new) result) }
 {
     match read_words(alloc, words) {
         Ok(Some(Command::Build(build))) => {

@@ -4,14 +4,15 @@ use Rattle.std.proofs.Common.{inl, inr, sym, ap, subst, arith}
 use Rattle.gm_base.specs.declared.edge.Edge.{Edge}
 use Rattle.gm_base.specs.declared.limits.TheConstants.{MAX_CHUNKS}
 use Rattle.gm_outside.specs.Files.{Files}
-use Rattle.gm_outside.specs.Frames.{DepotChange, OnlyReads}
+use Rattle.gm_outside.specs.States.{DepotState}
 use Rattle.gm_outside.specs.Causes.{counted, counted_times}
 use Rattle.gm_outside.specs.CausesRules.{counted_times-few}
 use Rattle.gm_grid.specs.GridBytes.{edges_in}
 use Rattle.gm_label.specs.Catalogues.{Catalogue}
 use Rattle.gm_source.specs.Openings.{opening_reads}
 use Rattle.gm_source.specs.Fetches.{TellsGrid}
-use Rattle.gm_job_run.specs.JobRuns.{ReadsSome}
+use Rattle.gm_outside.specs.Frames.{OnlyReads}
+use Rattle.gm_commands.specs.Readings.{ReadsWithin}
 use Rattle.gm_job_run.specs.JobLines.{runs_weight}
 use Rattle.gm_jobs.specs.StatedJobs.{StatedJob}
 use Rattle.gm_commands.specs.declared.failure.Failure.{Failure}
@@ -19,70 +20,80 @@ use Rattle.gm_commands.specs.declared.failure.Failure.TheVariants.{OutOfMemory}
 use Rattle.gm_commands.specs.Failures.{status_of}
 use Rattle.gm_words.specs.Commands.{RunCommand}
 use Rattle.gm_top.specs.RunReadings.{HoldsRun}
-use Rattle.gm_top.specs.RunEndings.{OpenedFew, RanFew, ReadsRun}
+use Rattle.gm_top.specs.RunEndings.{IsRefusal, OpenedFew, RanFew, ReadsRun}
 use Rattle.gm_top.proofs.Running.{EdgesBack}
 
-opened : (told : Option Files) (command : RunCommand) (depot : DepotChange) → IfSome told (OpenedFew command depot)
-    → IfSome told (λ held. OpenedFew command depot held ⊎ RanFew command depot held)
-opened None command depot few = tt
-opened (Some held) command depot few = inl few
+opened : (told : Option Files) (command : RunCommand) (old new : DepotState) → IfSome told (OpenedFew command old new)
+    → IfSome told (λ held. OpenedFew command old new held ⊎ RanFew command old new held)
+opened None command old new few = tt
+opened (Some held) command old new few = inl few
 
 -- the files couldn't be loaded
-pub reads_run-files : (command : RunCommand) (depot : DepotChange) (status : ℕ) → OnlyReads (3 + MAX_CHUNKS) depot
-    → IfSome depot.files (OpenedFew command depot) → ReadsRun command depot status
-reads_run-files command depot status frame few = record {
+pub reads_run-files : (command : RunCommand) (old new : DepotState) (status : ℕ) → ReadsWithin 2 (3 + MAX_CHUNKS) old new
+    → IfSome old.files (OpenedFew command old new) → ReadsRun command old new status
+reads_run-files command old new status frame few = record {
+  asked = frame.questions;
   most = 3 + MAX_CHUNKS;
-  frame = frame;
-  whole = opened depot.files command depot few;
-  refused = λ low high. frame.few_reads;
-  refused_told = λ low high. few;
+  few = frame.few;
+  frame = frame.frame;
+  whole = opened old.files command old new few;
+  refused = λ is. frame.frame.reads;
+  refused_told = λ is. few;
 }
 
-ran : (told : Option Files) (command : RunCommand) (depot : DepotChange) (mid : ℕ) (mid_told : Option Files) (cat : Catalogue) (jobs : List StatedJob) → EdgesBack → mid_told ≡ told
-    → mid ≡ counted (counted_times (opening_reads cat.places) depot.reads)
+ran : (told : Option Files) (command : RunCommand) (old new : DepotState) (mid : ℕ) (mid_told : Option Files) (cat : Catalogue) (jobs : List StatedJob) → EdgesBack → mid_told ≡ told
+    → mid ≡ counted (counted_times (opening_reads cat.places) old.reads)
     → IfSome told (λ held. HoldsRun command held cat jobs)
-    → ((bytes : List ℕ) → TellsGrid mid_told command.grid cat bytes → depot.reads_now ≤ mid + runs_weight cat (edges_in bytes) jobs)
-    → IfSome told (λ held. OpenedFew command depot held ⊎ RanFew command depot held)
-ran None command depot mid mid_told cat jobs back same opening holds few = tt
-ran (Some held) command depot mid mid_told cat jobs back same opening holds few =
+    → ((bytes : List ℕ) → TellsGrid mid_told command.grid cat bytes → new.reads ≤ mid + runs_weight cat (edges_in bytes) jobs)
+    → IfSome told (λ held. OpenedFew command old new held ⊎ RanFew command old new held)
+ran None command old new mid mid_told cat jobs back same opening holds few = tt
+ran (Some held) command old new mid mid_told cat jobs back same opening holds few =
     let is = holds.grid in
     let told : TellsGrid mid_told command.grid cat holds.bytes = record { files = held; is_told = same; there = holds.grid_file; size = command.chunk; catalogue = is } in
     let here = few holds.bytes told in
     let edges = ap (λ (es : List Edge). runs_weight cat es jobs) (back holds.bytes is.n is.parts is.blocks is.grid) in
-    let before = counted_times-few (suc (opening_reads cat.places)) depot.reads in
+    let before = counted_times-few (suc (opening_reads cat.places)) old.reads in
     inr (record { cat = cat; jobs = jobs; holds = holds; few = omega (arith, here, edges, before, opening) })
 
-no_refusal : (status : ℕ) → 2 ≤ status → status ≤ 6 → (status ≤ 1) ⊎ (7 ≤ status) → ⊥
-no_refusal status low high (inl less) = omega (arith, low, less)
-no_refusal status low high (inr more) = omega (arith, high, more)
+no_refusal : (status : ℕ) → IsRefusal status → (status ≤ 1) ⊎ (7 ≤ status) → ⊥
+no_refusal status is (inl less) = omega (arith, is.low, less)
+no_refusal status is (inr more) = omega (arith, is.high, more)
+
+-- the files were loaded and the jobs were run
+abbrev pub ReadsRan : DepotState → DepotState → Type 0
+ReadsRan old new = (most : ℕ) × OnlyReads 2 most old new
 
 -- the job was run, and the report was written or not
-pub reads_run-ran : (command : RunCommand) (depot : DepotChange) (status mid : ℕ) (mid_told : Option Files) (cat : Catalogue) (jobs : List StatedJob) → EdgesBack → mid_told ≡ depot.files
-    → mid ≡ counted (counted_times (opening_reads cat.places) depot.reads)
-    → IfSome depot.files (λ held. HoldsRun command held cat jobs)
-    → ((bytes : List ℕ) → TellsGrid mid_told command.grid cat bytes → depot.reads_now ≤ mid + runs_weight cat (edges_in bytes) jobs)
-    → ReadsSome depot → (status ≤ 1) ⊎ (7 ≤ status) → ReadsRun command depot status
-reads_run-ran command depot status mid mid_told cat jobs back same opening holds few frame other = record {
+pub reads_run-ran : (command : RunCommand) (old new : DepotState) (status mid : ℕ) (mid_told : Option Files) (cat : Catalogue) (jobs : List StatedJob) → EdgesBack → mid_told ≡ old.files
+    → mid ≡ counted (counted_times (opening_reads cat.places) old.reads)
+    → IfSome old.files (λ held. HoldsRun command held cat jobs)
+    → ((bytes : List ℕ) → TellsGrid mid_told command.grid cat bytes → new.reads ≤ mid + runs_weight cat (edges_in bytes) jobs)
+    → ReadsRan old new → (status ≤ 1) ⊎ (7 ≤ status) → ReadsRun command old new status
+reads_run-ran command old new status mid mid_told cat jobs back same opening holds few frame other = record {
+  asked = 2;
   most = frame.0;
+  few = omega arith;
   frame = frame.1;
-  whole = ran depot.files command depot mid mid_told cat jobs back same opening holds few;
-  refused = λ low high. absurd (no_refusal status low high other);
-  refused_told = λ low high. absurd (no_refusal status low high other);
+  whole = ran old.files command old new mid mid_told cat jobs back same opening holds few;
+  refused = λ is. absurd (no_refusal status is other);
+  refused_told = λ is. absurd (no_refusal status is other);
 }
 
 -- the same of another such status
-pub reads_run-other : (command : RunCommand) (depot : DepotChange) (before status : ℕ) → (status ≤ 1) ⊎ (7 ≤ status) → ReadsRun command depot before → ReadsRun command depot status
-reads_run-other command depot before status other a = record {
+pub reads_run-other : (command : RunCommand) (old new : DepotState) (before status : ℕ) → (status ≤ 1) ⊎ (7 ≤ status) → ReadsRun command old new before → ReadsRun command old new status
+reads_run-other command old new before status other a = record {
+  asked = a.asked;
   most = a.most;
+  few = a.few;
   frame = a.frame;
   whole = a.whole;
-  refused = λ low high. absurd (no_refusal status low high other);
-  refused_told = λ low high. absurd (no_refusal status low high other);
+  refused = λ is. absurd (no_refusal status is other);
+  refused_told = λ is. absurd (no_refusal status is other);
 }
 
 -- however the job's run ended
-pub reads_run-matched : {T : Type 0} (command : RunCommand) (depot : DepotChange) (result : Result T Failure) → IfErr result (λ failure. failure ≡ OutOfMemory)
-    → ReadsRun command depot 0 → MatchResult result (λ _. ReadsRun command depot 0) (λ failure. ReadsRun command depot (status_of failure))
-reads_run-matched command depot (Ok x) memory a = a
-reads_run-matched command depot (Err failure) memory a =
-    subst (λ (f : Failure). ReadsRun command depot (status_of f)) (sym memory) (reads_run-other command depot 0 8 (inr (omega arith)) a)
+pub reads_run-matched : {T : Type 0} (command : RunCommand) (old new : DepotState) (result : Result T Failure) → IfErr result (λ failure. failure ≡ OutOfMemory)
+    → ReadsRun command old new 0 → MatchResult result (λ _. ReadsRun command old new 0) (λ failure. ReadsRun command old new (status_of failure))
+reads_run-matched command old new (Ok x) memory a = a
+reads_run-matched command old new (Err failure) memory a =
+    subst (λ (f : Failure). ReadsRun command old new (status_of f)) (sym memory) (reads_run-other command old new 0 8 (inr (omega arith)) a)

@@ -2,8 +2,6 @@
 use Rattle.std.specs.Prelude.{◌≡◌, ℕ, ◌+◌, List, Option, Some, None, IfSome, IsSomeAnd, Ok, Err, refl}
 use Rattle.std.specs.FinMap.{get}
 use Rattle.std.proofs.Common.{sym, ap, ◌∙◌, subst}
-use Rattle.gm_outside.specs.declared.traits.Depot as Depot
-use Rattle.gm_outside.specs.Calls.{depot_change}
 use Rattle.gm_outside.specs.Files.{Files}
 use Rattle.gm_grid.specs.Format.{IsGrid, dimensions_of}
 use Rattle.gm_grid.specs.GridBytes.{shape_in}
@@ -13,7 +11,7 @@ use Rattle.gm_source.specs.Openings.{IsTold, IsCatalogueOf}
 use Rattle.gm_jobs.specs.StatedJobs.{StatedJob}
 use Rattle.gm_words.specs.Commands.{RunCommand}
 use Rattle.gm_base.specs.declared.limits.TheConstants.{MAX_CHUNKS}
-use Rattle.gm_outside.specs.Frames.{DepotChange}
+use Rattle.gm_outside.specs.States.{DepotState}
 use Rattle.gm_commands.specs.declared.failure.Failure.{Failure}
 use Rattle.gm_commands.specs.declared.failure.Operand.TheVariants.{Edges, Grid, Jobs}
 use Rattle.gm_commands.specs.Readings.{Reading, ReadsFiles}
@@ -65,32 +63,33 @@ apart command Grid reads = absurd cc
 apart command Jobs reads = refl
 
 -- the same reading with another answer of the same kind
-reads-ok : {X Y : Type 0} (most : ℕ) (reading : Reading) (depot : DepotChange) (x : X) (y : Y) → ReadsFiles most reading depot (Ok x) → ReadsFiles most reading depot (Ok y)
-reads-ok most reading depot x y a = record { frame = a.frame; ok = a.ok; err = tt }
+reads-ok : {X Y : Type 0} (files most : ℕ) (reading : Reading) (old new : DepotState) (x : X) (y : Y)
+    → ReadsFiles files most reading old new (Ok x) → ReadsFiles files most reading old new (Ok y)
+reads-ok files most reading old new x y a = record { frame = a.frame; ok = a.ok; asked = a.asked; err = tt }
 
-reads-err : {X Y : Type 0} (most : ℕ) (reading : Reading) (depot : DepotChange) (failure : Failure) → ReadsFiles {T = X} most reading depot (Err failure)
-    → ReadsFiles {T = Y} most reading depot (Err failure)
-reads-err most reading depot failure a = record { frame = a.frame; ok = tt; err = a.err }
+reads-err : {X Y : Type 0} (files most : ℕ) (reading : Reading) (old new : DepotState) (failure : Failure)
+    → ReadsFiles {T = X} files most reading old new (Err failure) → ReadsFiles {T = Y} files most reading old new (Err failure)
+reads-err files most reading old new failure a = record { frame = a.frame; ok = tt; asked = tt; err = a.err }
 
 -- the grid was opened, and then the job text was read, or couldn't be
-pub loaded : {D X Y : Type 0} (g : Depot.Ghosts D) (old mid new : D) (command : RunCommand) (cat : Catalogue) (n : ℕ) (x : X) (y : Y) → Shapes → n ≡ cat.dimensions.n
-    → IsTold (g.files old) command.grid (λ bytes. IsCatalogueOf bytes command.chunk cat)
-    → ReadsFiles (2 + MAX_CHUNKS) (grid_reading command.grid command.chunk) (depot_change g old mid) (Ok cat)
-    → ReadsFiles 1 (jobs_reading command n) (depot_change g mid new) (Ok x)
-    → ReadsFiles (3 + MAX_CHUNKS) (files_reading command) (depot_change g old new) (Ok y)
-loaded g old mid new command cat n x y shapes count grid first second =
-    let told = subst (λ (files : Option Files). IsTold files command.grid (λ bytes. IsCatalogueOf bytes command.chunk cat)) (sym first.frame.files_kept) grid in
-    let by_file = reads_files-same g mid new 1 (jobs_reading command n) (jobs_reading_by_grid command).refusal (Ok x) (by_grid (g.files mid) command cat n shapes count told) second in
-    reads_files-then g old mid new (2 + MAX_CHUNKS) 1 (grid_reading command.grid command.chunk) (jobs_reading_by_grid command) cat (Ok y) (apart command) first
-    (reads-ok 1 (jobs_reading_by_grid command) (depot_change g mid new) x y by_file)
+pub loaded : {X Y : Type 0} (old mid new : DepotState) (command : RunCommand) (cat : Catalogue) (n : ℕ) (x : X) (y : Y) → Shapes → n ≡ cat.dimensions.n
+    → IsTold old.files command.grid (λ bytes. IsCatalogueOf bytes command.chunk cat)
+    → ReadsFiles 1 (2 + MAX_CHUNKS) (grid_reading command.grid command.chunk) old mid (Ok cat)
+    → ReadsFiles 1 1 (jobs_reading command n) mid new (Ok x)
+    → ReadsFiles 2 (3 + MAX_CHUNKS) (files_reading command) old new (Ok y)
+loaded old mid new command cat n x y shapes count grid first second =
+    let told = subst (λ (files : Option Files). IsTold files command.grid (λ bytes. IsCatalogueOf bytes command.chunk cat)) (sym first.frame.frame.files) grid in
+    let by_file = reads_files-same mid new 1 1 (jobs_reading command n) (jobs_reading_by_grid command).refusal (Ok x) (by_grid mid.files command cat n shapes count told) second in
+    reads_files-then old mid new 1 (2 + MAX_CHUNKS) 1 1 (grid_reading command.grid command.chunk) (jobs_reading_by_grid command) cat (Ok y) (apart command) first
+    (reads-ok 1 1 (jobs_reading_by_grid command) mid new x y by_file)
 
-pub not_loaded : {D X Y : Type 0} (g : Depot.Ghosts D) (old mid new : D) (command : RunCommand) (cat : Catalogue) (n : ℕ) (failure : Failure) → Shapes → n ≡ cat.dimensions.n
-    → IsTold (g.files old) command.grid (λ bytes. IsCatalogueOf bytes command.chunk cat)
-    → ReadsFiles (2 + MAX_CHUNKS) (grid_reading command.grid command.chunk) (depot_change g old mid) (Ok cat)
-    → ReadsFiles {T = X} 1 (jobs_reading command n) (depot_change g mid new) (Err failure)
-    → ReadsFiles {T = Y} (3 + MAX_CHUNKS) (files_reading command) (depot_change g old new) (Err failure)
-not_loaded {X = X} {Y = Y} g old mid new command cat n failure shapes count grid first second =
-    let told = subst (λ (files : Option Files). IsTold files command.grid (λ bytes. IsCatalogueOf bytes command.chunk cat)) (sym first.frame.files_kept) grid in
-    let by_file = reads_files-same {T = X} g mid new 1 (jobs_reading command n) (jobs_reading_by_grid command).refusal (Err failure) (by_grid (g.files mid) command cat n shapes count told) second in
-    reads_files-then g old mid new (2 + MAX_CHUNKS) 1 (grid_reading command.grid command.chunk) (jobs_reading_by_grid command) cat (Err failure) (apart command) first
-    (reads-err {X = X} {Y = Y} 1 (jobs_reading_by_grid command) (depot_change g mid new) failure by_file)
+pub not_loaded : {X Y : Type 0} (old mid new : DepotState) (command : RunCommand) (cat : Catalogue) (n : ℕ) (failure : Failure) → Shapes → n ≡ cat.dimensions.n
+    → IsTold old.files command.grid (λ bytes. IsCatalogueOf bytes command.chunk cat)
+    → ReadsFiles 1 (2 + MAX_CHUNKS) (grid_reading command.grid command.chunk) old mid (Ok cat)
+    → ReadsFiles {T = X} 1 1 (jobs_reading command n) mid new (Err failure)
+    → ReadsFiles {T = Y} 2 (3 + MAX_CHUNKS) (files_reading command) old new (Err failure)
+not_loaded {X = X} {Y = Y} old mid new command cat n failure shapes count grid first second =
+    let told = subst (λ (files : Option Files). IsTold files command.grid (λ bytes. IsCatalogueOf bytes command.chunk cat)) (sym first.frame.frame.files) grid in
+    let by_file = reads_files-same {T = X} mid new 1 1 (jobs_reading command n) (jobs_reading_by_grid command).refusal (Err failure) (by_grid mid.files command cat n shapes count told) second in
+    reads_files-then old mid new 1 (2 + MAX_CHUNKS) 1 1 (grid_reading command.grid command.chunk) (jobs_reading_by_grid command) cat (Err failure) (apart command) first
+    (reads-err {X = X} {Y = Y} 1 1 (jobs_reading_by_grid command) mid new failure by_file)

@@ -10,8 +10,7 @@ use Rattle.gm_base.specs.declared.job.Outcome.{Outcome}
 use Rattle.gm_base.specs.declared.job.Outcome.TheVariants.{Rounds}
 use Rattle.gm_base.specs.Graph.{IsGraph}
 use Rattle.gm_kernel.specs.Runs.{lone_run, most_rounds}
-use Rattle.gm_outside.specs.declared.traits.Depot as Depot
-use Rattle.gm_outside.specs.Calls.{depot_change}
+use Rattle.gm_outside.specs.States.{DepotState}
 use Rattle.gm_outside.specs.Causes.{counted, counted_times}
 use Rattle.gm_outside.specs.CausesRules.{counted_times-add}
 use Rattle.gm_outside.specs.Files.{Files}
@@ -87,46 +86,46 @@ all_reads cat edges jobs first mid last opened ran =
     let order : suc (opening_reads cat.places) + weight ≡ opening_reads cat.places + 1 + weight = omega arith in
     ran ∙ ap (counted_times weight) opened ∙ sym (counted_times-add (suc (opening_reads cat.places)) weight first) ∙ ap (λ (n : ℕ). counted_times n first) order
 
-lines_in : {D : Type 0} (g : Depot.Ghosts D) (old mid new : D) (told : Option Files) (command : RunCommand) (cat : Catalogue) (jobs : List StatedJob) (lines : List JobLine)
-    → g.files mid ≡ told → g.calm mid ≡ g.calm old → g.reads mid ≡ counted (counted_times (opening_reads cat.places) (g.reads old))
+lines_in : (old mid new : DepotState) (told : Option Files) (command : RunCommand) (cat : Catalogue) (jobs : List StatedJob) (lines : List JobLine)
+    → mid.files ≡ told → mid.calm ≡ old.calm → mid.reads ≡ counted (counted_times (opening_reads cat.places) old.reads)
     → EdgesBack → Settles → Views → Graphs → SeesVertices cat.dimensions.n jobs
     → IfSome told (λ held. HoldsRun command held cat jobs)
-    → ((bytes : List ℕ) → TellsGrid (g.files mid) command.grid cat bytes → RunOver cat (edges_in bytes) (depot_change g mid new) jobs lines)
-    → IfSome told (λ held. AreLinesOf command (depot_change g old new) held lines)
-lines_in g old mid new None command cat jobs lines files calm opened back settles views graphs seen holds ran = tt
-lines_in g old mid new (Some held) command cat jobs lines files calm opened back settles views graphs seen holds ran =
+    → ((bytes : List ℕ) → TellsGrid mid.files command.grid cat bytes → RunOver cat (edges_in bytes) mid new jobs lines)
+    → IfSome told (λ held. AreLinesOf command old new held lines)
+lines_in old mid new None command cat jobs lines files calm opened back settles views graphs seen holds ran = tt
+lines_in old mid new (Some held) command cat jobs lines files calm opened back settles views graphs seen holds ran =
     let is = holds.grid in
     let same = back holds.bytes is.n is.parts is.blocks is.grid in
     let graph = graphs holds.bytes command.chunk cat is in
-    let over = ran holds.bytes (tells (g.files mid) held command cat jobs holds files) in
-    let ended = each_ends _ _ _ (in_time cat (edges_in holds.bytes) (g.calm mid) settles views graph.0 graph.1) jobs lines seen over.ended in
+    let over = ran holds.bytes (tells mid.files held command cat jobs holds files) in
+    let ended = each_ends _ _ _ (in_time cat (edges_in holds.bytes) mid.calm settles views graph.0 graph.1) jobs lines seen over.ended in
     record {
       cat = cat;
       jobs = jobs;
       holds = holds;
       ended =
           subst (λ (is_calm : Bool). AreLinesOfJobs (EndsInTime cat (edges_of_grid is.blocks) is_calm) jobs lines) calm
-          (subst (λ (edges : List Edge). AreLinesOfJobs (EndsInTime cat edges (g.calm mid)) jobs lines) same ended);
+          (subst (λ (edges : List Edge). AreLinesOfJobs (EndsInTime cat edges mid.calm) jobs lines) same ended);
       reads = λ none.
-          subst (λ (edges : List Edge). g.reads new ≡ counted_times (reads_of_run cat edges jobs) (g.reads old)) same
-          (all_reads cat (edges_in holds.bytes) jobs (g.reads old) (g.reads mid) (g.reads new) opened (over.reads none));
+          subst (λ (edges : List Edge). new.reads ≡ counted_times (reads_of_run cat edges jobs) old.reads) same
+          (all_reads cat (edges_in holds.bytes) jobs old.reads mid.reads new.reads opened (over.reads none));
     }
 
 -- the lines of the jobs that were loaded, where they have some
-pub lines_reported : {D : Type 0} (g : Depot.Ghosts D) (old mid new : D) (command : RunCommand) (cat : Catalogue) (script : List Line) (result : Result (Vec JobLine Global) Failure)
-    → ReadsFiles {T = Catalogue × List Line} (3 + MAX_CHUNKS) (files_reading command) (depot_change g old mid) (Ok (cat, script))
-    → g.reads mid ≡ counted (counted_times (opening_reads cat.places) (g.reads old))
+pub lines_reported : (old mid new : DepotState) (command : RunCommand) (cat : Catalogue) (script : List Line) (result : Result (Vec JobLine Global) Failure)
+    → ReadsFiles {T = Catalogue × List Line} 2 (3 + MAX_CHUNKS) (files_reading command) old mid (Ok (cat, script))
+    → mid.reads ≡ counted (counted_times (opening_reads cat.places) old.reads)
     → EdgesBack → Settles → Views → Graphs → SeesVertices cat.dimensions.n (jobs_of script) → StatesJobs cat.dimensions.n (jobs_of script)
-    → IfSome (g.files old) (λ held. HoldsRun command held cat (jobs_of script))
+    → IfSome old.files (λ held. HoldsRun command held cat (jobs_of script))
     → IfOk result (λ lines. AreLinesOfJobs (λ job outcome. IsTold outcome) (jobs_of script) lines.items)
-    → ((bytes : List ℕ) → TellsGrid (g.files mid) command.grid cat bytes
-    → IfOk result (λ lines. RunOver cat (edges_in bytes) (depot_change g mid new) (jobs_of script) lines.items))
-    → IfOk result (λ lines. FaultsOf lines.items (g.faults mid) (g.faults new))
-    → IfOk result (λ lines. AreReported command (depot_change g old new) lines.items)
-lines_reported g old mid new command cat script (Ok lines) files opened back settles views graphs seen states holds told ran faults =
+    → ((bytes : List ℕ) → TellsGrid mid.files command.grid cat bytes
+    → IfOk result (λ lines. RunOver cat (edges_in bytes) mid new (jobs_of script) lines.items))
+    → IfOk result (λ lines. FaultsOf lines.items mid.faults new.faults)
+    → IfOk result (λ lines. AreReported command old new lines.items)
+lines_reported old mid new command cat script (Ok lines) files opened back settles views graphs seen states holds told ran faults =
     record {
       some = record { n = cat.dimensions.n; jobs = jobs_of script; states = states; told = told };
-      told = lines_in g old mid new (g.files old) command cat (jobs_of script) lines.items files.frame.files_kept files.frame.calm_kept opened back settles views graphs seen holds ran;
-      faults = subst (λ (before : ℕ). FaultsOf lines.items before (g.faults new)) files.ok.1 faults;
+      told = lines_in old mid new old.files command cat (jobs_of script) lines.items files.frame.frame.files files.frame.frame.calm opened back settles views graphs seen holds ran;
+      faults = subst (λ (before : ℕ). FaultsOf lines.items before new.faults) files.ok.1 faults;
     }
-lines_reported g old mid new command cat script (Err failure) files opened back settles views graphs seen states holds told ran faults = tt
+lines_reported old mid new command cat script (Err failure) files opened back settles views graphs seen states holds told ran faults = tt

@@ -1,74 +1,76 @@
 -- A call that ends before its words are read keeps the promises: it lacks memory, and leaves all as it was.
-use Rattle.std.specs.Prelude.{◌+◌, ◌≤◌, ◌⊎◌, ℕ, List, Option, Some, None, IfSome, refl}
-use Rattle.std.proofs.Common.{inl, inr, rules, arith}
+use Rattle.std.specs.Prelude.{◌≡◌, ◌+◌, ◌≤◌, ◌⊎◌, List, ℕ, Option, Some, None, IfSome, refl}
+use Rattle.std.proofs.Common.{ap, inl, inr, arith}
 use Rattle.std.specs.FinMap.{get}
-use Rattle.gm_outside.specs.declared.traits.Depot as Depot
 use Rattle.gm_outside.specs.Files.{Files}
-use Rattle.gm_outside.specs.Calls.{depot_change}
-use Rattle.gm_outside.specs.Frames.{SinkChange}
+use Rattle.gm_outside.specs.FramesRules.{only_reads-none}
+use Rattle.gm_outside.specs.States.{DepotState}
+use Rattle.gm_source.specs.Openings.{ReadsUpTo, file_reads}
 use Rattle.gm_words.specs.Commands.{Command, RunCommand, run, build, info, command_of}
-use Rattle.gm_source.specs.Openings.{file_reads}
-use Rattle.gm_commands.specs.Endings.{CommandCall, call_of, LacksWords}
-use Rattle.gm_commands.specs.EndingsRules.{lacks_words-failed, lacks_words-complete}
-use Rattle.gm_top.specs.RunEndings.{reading_of, Leaves, Fails, IsCompleteFor, KeepsFiles, OpenedFew, RanFew, Reads, most_success}
+use Rattle.gm_commands.specs.Endings.{CommandCall, HasFailed, IsComplete, LacksWords, Outside}
+use Rattle.gm_commands.specs.EndingsRules.{AllowsNothing, lacks_words-failed, lacks_words-reads, lacks_words-keeps, lacks_words-complete}
+use Rattle.gm_tools.specs.ToolsRules.{writes_nothing-none, build-allows_nothing, info-allows_nothing}
+use Rattle.gm_top.specs.RunEndings.{IsRefusal, OpenedFew, RanFew, contract_of, run_contract}
 use Rattle.gm_top.specs.Promises.{KeepsPromises}
 
-fails : (found : Option Command) (call : CommandCall) → LacksWords call → IfSome found (λ command. Fails command call)
-fails None call lacks = tt
-fails (Some (run command)) call lacks = lacks_words-failed reading_of Leaves (run command) call lacks (inl lacks.nothing.nothing)
-fails (Some (build command)) call lacks = lacks_words-failed reading_of Leaves (build command) call lacks (inl lacks.nothing.nothing)
-fails (Some (info command)) call lacks = lacks_words-failed reading_of Leaves (info command) call lacks (inl lacks.nothing.nothing)
-
-completes : (found : Option Command) (call : CommandCall) → LacksWords call
-    → IfSome found (λ command. IsCompleteFor command call.depot call.out call.status)
-completes None call lacks = tt
-completes (Some command) call lacks = lacks_words-complete (reading_of command) (most_success command) call lacks
-
-keeps : (found : Option Command) (call : CommandCall) → LacksWords call → IfSome found (λ command. KeepsFiles command call.depot)
-keeps None call lacks = tt
-keeps (Some (run command)) call lacks = (lacks.nothing.nothing.files, lacks.nothing.nothing.write_faults)
-keeps (Some (build command)) call lacks = record { kept = inl lacks.nothing.nothing.files }
-keeps (Some (info command)) call lacks = (lacks.nothing.nothing.files, lacks.nothing.nothing.write_faults)
-
 -- no read was made, so the grid's opening took no more than it may
-few : (found : Option (List ℕ)) (before : ℕ) (most : List ℕ → ℕ) → IfSome found (λ bytes. before ≤ before + (most bytes + 1))
-few None before most = tt
-few (Some bytes) before most = omega arith
+opened : (before : DepotState) (command : RunCommand) (told : Option Files)
+    → IfSome told (λ held. OpenedFew command before before held ⊎ RanFew command before before held)
+opened before command None = tt
+opened before command (Some held) = inl (of_file (get held command.grid))
+  where
+    of_file : (found : Option (List ℕ)) → IfSome found (λ bytes. ReadsUpTo (file_reads command.chunk bytes + 1) before before)
+    of_file None = tt
+    of_file (Some bytes) = omega arith
 
-opened : {D : Type 0} (g : Depot.Ghosts D) (depot : D) (command : RunCommand) (told : Option Files)
-    → IfSome told (λ held. OpenedFew command (depot_change g depot depot) held ⊎ RanFew command (depot_change g depot depot) held)
-opened g depot command None = tt
-opened g depot command (Some held) = inl (few (get held command.grid) (g.reads depot) (file_reads command.chunk))
+no_refusal : IsRefusal 8 → ⊥
+no_refusal is = let high : 8 ≤ 6 = is.high in omega (arith, high)
 
-reads : {D : Type 0} (g : Depot.Ghosts D) (depot : D) (found : Option Command)
-    → IfSome found (λ command. Reads command (depot_change g depot depot) 8)
-reads g depot None = tt
-reads g depot (Some (run command)) = record {
-  most = 0;
-  frame = search rules;
-  whole = opened g depot command (g.files depot);
-  refused = search rules;
-  refused_told = search rules;
+run-allows_nothing : (command : RunCommand) → AllowsNothing (run_contract command)
+run-allows_nothing command = record {
+  leaves = λ before. inl (writes_nothing-none before);
+  reads = λ before. record {
+    asked = 0;
+    most = 0;
+    few = omega arith;
+    frame = only_reads-none before;
+    whole = opened before command before.files;
+    refused = λ is. absurd (no_refusal is);
+    refused_told = λ is. absurd (no_refusal is);
+  };
+  keeps = λ before. (refl, refl);
 }
-reads g depot (Some (build command)) = search rules
-reads g depot (Some (info command)) = search rules
 
-pub lacking : {D : Type 0} (g : Depot.Ghosts D) (depot : D) (words : List (List ℕ)) (out err : SinkChange)
-    → out.faults ≤ out.faults_now → LacksWords (call_of words (depot_change g depot depot) out err 8)
-    → KeepsPromises (call_of words (depot_change g depot depot) out err 8)
-lacking g depot words out err later lacks =
-    let call = call_of words (depot_change g depot depot) out err 8 in
+allows_nothing : (command : Command) → AllowsNothing (contract_of command)
+allows_nothing (run command) = run-allows_nothing command
+allows_nothing (build command) = build-allows_nothing command
+allows_nothing (info command) = info-allows_nothing command
+
+each : (found : Option Command) (Holds : Command → Type 0) → ((command : Command) → Holds command) → IfSome found Holds
+each None Holds holds = tt
+each (Some command) Holds holds = holds command
+
+pub lacking : (call : CommandCall) → LacksWords call → KeepsPromises call
+lacking call lacks =
+    let eight : call.status ≡ 8 = lacks.status_is in
+    let faults : call.new.depot.faults ≡ call.old.depot.faults = ap (λ (o : Outside). o.depot.faults) lacks.nothing in
+    let out_faults : call.new.out.faults ≡ call.old.out.faults = ap (λ (o : Outside). o.out.faults) lacks.nothing in
+    let found = command_of call.words in
     record {
-      usage = search rules;
+      usage = λ is. absurd (omega (arith, eight, is));
       no_command = λ _. inr lacks;
-      report = search rules;
-      error_line = λ _. fails (command_of words) call lacks;
-      completeness = completes (command_of words) call lacks;
-      files = keeps (command_of words) call lacks;
-      reads = reads g depot (command_of words);
-      read_or_write_fault = search rules;
-      output_fault = search rules;
-      calm = refl;
-      faults = search rules;
-      out_faults = later;
+      report = λ is. absurd (omega (arith, eight, is));
+      error_line = λ _. each found (λ command. HasFailed command (contract_of command) call)
+          (λ command. lacks_words-failed command (contract_of command) call (allows_nothing command) lacks);
+      completeness = each found (λ command. IsComplete (contract_of command) call.old call.new call.status)
+          (λ command. lacks_words-complete (contract_of command) call lacks);
+      files = each found (λ command. (contract_of command).KeepsFiles call.old.depot call.new.depot)
+          (λ command. lacks_words-keeps (contract_of command) call (allows_nothing command) lacks);
+      reads = each found (λ command. (contract_of command).Reads call.old.depot call.new.depot call.status)
+          (λ command. lacks_words-reads (contract_of command) call (allows_nothing command) lacks);
+      read_or_write_fault = λ is. absurd (omega (arith, eight, is));
+      output_fault = λ is. absurd (omega (arith, eight, is));
+      calm = ap (λ (o : Outside). o.depot.calm) lacks.nothing;
+      faults = omega arith;
+      out_faults = omega arith;
     }

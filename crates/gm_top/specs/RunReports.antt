@@ -6,16 +6,16 @@ use Rattle.gm_base.specs.declared.edge.Edge.{Edge}
 use Rattle.gm_base.specs.declared.job.JobLine.{JobLine}
 use Rattle.gm_base.specs.declared.job.Outcome.{Outcome}
 use Rattle.gm_base.specs.declared.job.Outcome.TheVariants.{Done, Rounds}
-use Rattle.gm_outside.specs.Causes.{counted_times}
 use Rattle.gm_outside.specs.Files.{Files}
-use Rattle.gm_outside.specs.Frames.{DepotChange, SinkChange}
+use Rattle.gm_outside.specs.States.{DepotState}
 use Rattle.gm_grid.specs.Format.{edges_of_grid}
 use Rattle.gm_label.specs.Catalogues.{Catalogue}
-use Rattle.gm_source.specs.Openings.{opening_reads}
+use Rattle.gm_source.specs.Openings.{ReadsJust, opening_reads}
 use Rattle.gm_job_run.specs.JobLines.{AreLinesOfJobs, EndsOver, FaultsOf, IsTold, failed_reads, runs_weight}
 use Rattle.gm_report.specs.Report.{report_text}
 use Rattle.gm_jobs.specs.StatedJobs.{StatedJob}
 use Rattle.gm_words.specs.Commands.{RunCommand}
+use Rattle.gm_commands.specs.Endings.{Outside}
 use Rattle.gm_top.specs.RunReadings.{HoldsRun, StatesJobs}
 
 abbrev pub is_failure : Outcome → Bool
@@ -45,12 +45,12 @@ reads_of_run cat edges jobs = opening_reads cat.places + 1 + runs_weight cat edg
 
 -- These are the lines of the command's jobs, in file order: the files are there, one is a grid and the other states the jobs. Without a
 -- failed read the run took exactly its reads.
-pub record AreLinesOf (command : RunCommand) (depot : DepotChange) (files : Files) (lines : List JobLine) : Type 0 where
+pub record AreLinesOf (command : RunCommand) (old new : DepotState) (files : Files) (lines : List JobLine) : Type 0 where
   pub cat : Catalogue
   pub jobs : List StatedJob
   pub holds : HoldsRun command files cat jobs
-  pub ended : AreLinesOfJobs (EndsInTime cat (edges_of_grid holds.grid.blocks) depot.calm) jobs lines
-  pub reads : failed_reads lines ≡ 0 → depot.reads_now ≡ counted_times (reads_of_run cat (edges_of_grid holds.grid.blocks) jobs) depot.reads
+  pub ended : AreLinesOfJobs (EndsInTime cat (edges_of_grid holds.grid.blocks) old.calm) jobs lines
+  pub reads : failed_reads lines ≡ 0 → ReadsJust (reads_of_run cat (edges_of_grid holds.grid.blocks) jobs) old new
 
 -- Whatever the depot tells: these are lines of some job text's jobs, none of which wants memory.
 pub record AreSomeLines (lines : List JobLine) : Type 0 where
@@ -61,13 +61,14 @@ pub record AreSomeLines (lines : List JobLine) : Type 0 where
 
 -- These lines are those of the command's jobs, where the files are told. The depot's faults rose by no less than the failed reads, and
 -- where there are none they are as they were.
-pub record AreReported (command : RunCommand) (depot : DepotChange) (lines : List JobLine) : Type 0 where
+pub record AreReported (command : RunCommand) (old new : DepotState) (lines : List JobLine) : Type 0 where
   pub some : AreSomeLines lines
-  pub told : IfSome depot.files (λ held. AreLinesOf command depot held lines)
-  pub faults : FaultsOf lines depot.faults depot.faults_now
+  pub told : IfSome old.files (λ held. AreLinesOf command old new held lines)
+  pub faults : FaultsOf lines old.faults new.faults
 
 -- the report of the command's jobs was written, or a first part of it, as the growth says
-pub record Reports (Grew : Option (List ℕ) → Option (List ℕ) → List ℕ → Type 0) (command : RunCommand) (depot : DepotChange) (out : SinkChange) : Type 0 where
+pub record Reports (Grew : Option (List ℕ) → Option (List ℕ) → List ℕ → Type 0)
+    (command : RunCommand) (old new : Outside) : Type 0 where
   pub lines : List JobLine
-  pub reported : AreReported command depot lines
-  pub written : Grew out.held out.holds (report_text lines)
+  pub reported : AreReported command old.depot new.depot lines
+  pub written : Grew old.out.written new.out.written (report_text lines)

@@ -3,8 +3,7 @@
 ghost use Rattle.std.specs.Prelude.{◌≡◌, IfOk, drop, map, string_bytes};
 ghost use Rattle.std.specs.Vec.Iter.{into_iter_items};
 ghost use Rattle.std.specs.Process.{exit_status};
-ghost use Rattle.gm_outside.specs.Calls.{depot_change, sink_change};
-ghost use Rattle.gm_commands.specs.Endings.{call_of};
+ghost use Rattle.gm_commands.specs.Endings.{call_of, outside};
 ghost use Rattle.gm_top.specs.Promises.{argument_words, KeepsPromises};
 
 use crate::top_call::graphm;
@@ -51,8 +50,8 @@ pub fn program<R: AllocGlobal, D: Depot + Send, K: Sink, E: Sink, G: Gate + Send
     err: &mut E,
     gate: G,
 ) -> (ExitCode, D)
-    ensures { KeepsPromises (call_of (argument_words arguments) (depot_change ⟦<D as Depot>⟧ depot result.1)
-        (sink_change ⟦<K as Sink>⟧ out.old out.new) (sink_change ⟦<E as Sink>⟧ err.old err.new) (exit_status result.0)) }
+    ensures { KeepsPromises (call_of (argument_words arguments) (outside (D.state depot) (K.state out.old))
+        (outside (D.state result.1) (K.state out.new)) (E.state err.old) (E.state err.new) (exit_status result.0)) }
 {
     let words = gather_words(rt.alloc(), arguments);
     let gate = Arc::new(rt.alloc(), gate);

@@ -1,11 +1,10 @@
 //! The top call.
 
 ghost use Rattle.std.specs.Prelude.{◌≡◌, ◌≤◌, IfOk, MatchResult};
-ghost use Rattle.gm_outside.specs.Calls.{depot_change, sink_change};
 ghost use Rattle.gm_words.specs.Commands.{said, HasChunkSize};
-ghost use Rattle.gm_commands.specs.Endings.{call_of};
+ghost use Rattle.gm_commands.specs.Endings.{call_of, outside, Handles, IsComplete};
 ghost use Rattle.gm_commands.specs.Failures.{status_of};
-ghost use Rattle.gm_top.specs.RunEndings.{CommandHandles, Reads, KeepsFiles, most_success, IsCompleteFor};
+ghost use Rattle.gm_top.specs.RunEndings.{contract_of};
 ghost use Rattle.gm_top.specs.Promises.{KeepsPromises};
 
 use crate::run_call::run;
@@ -24,18 +23,21 @@ fn perform<R: AllocGlobal, D: Depot, K: Sink>(
     out: &mut K,
 ) -> Result<u8, Failure>
     requires { HasChunkSize (said command.now) }
-    ensures handles { CommandHandles (said command.now) (depot_change ⟦<D as Depot>⟧ depot.old depot.new) (sink_change ⟦<K as Sink>⟧ out.old out.new) result }
-    ensures status { IfOk result (λ status. status ≤ most_success (said command.now)) }
-    ensures files { KeepsFiles (said command.now) (depot_change ⟦<D as Depot>⟧ depot.old depot.new) }
-    ensures reads { MatchResult result (Reads (said command.now) (depot_change ⟦<D as Depot>⟧ depot.old depot.new))
-        (λ failure. Reads (said command.now) (depot_change ⟦<D as Depot>⟧ depot.old depot.new) (status_of failure)) }
+    ensures handles { Handles (contract_of (said command.now)) (outside (D.state depot.old) (K.state out.old))
+        (outside (D.state depot.new) (K.state out.new)) result }
+    ensures status { IfOk result (λ status. status ≤ (contract_of (said command.now)).most_success) }
+    ensures files { (contract_of (said command.now)).KeepsFiles (D.state depot.old) (D.state depot.new) }
+    ensures reads { MatchResult result
+        ((contract_of (said command.now)).Reads (D.state depot.old) (D.state depot.new))
+        (λ failure. (contract_of (said command.now)).Reads (D.state depot.old) (D.state depot.new) (status_of failure)) }
     ensures completeness { MatchResult result
-        (IsCompleteFor (said command.now) (depot_change ⟦<D as Depot>⟧ depot.old depot.new) (sink_change ⟦<K as Sink>⟧ out.old out.new))
-        (λ failure. IsCompleteFor (said command.now)
-        (depot_change ⟦<D as Depot>⟧ depot.old depot.new) (sink_change ⟦<K as Sink>⟧ out.old out.new) (status_of failure)) }
-    ensures faults { D.faults depot.old ≤ D.faults depot.new }
-    ensures out_faults { K.faults out.old ≤ K.faults out.new }
-    ensures calm { D.calm depot.new ≡ D.calm depot.old }
+        (IsComplete (contract_of (said command.now)) (outside (D.state depot.old) (K.state out.old))
+        (outside (D.state depot.new) (K.state out.new)))
+        (λ failure. IsComplete (contract_of (said command.now)) (outside (D.state depot.old) (K.state out.old))
+        (outside (D.state depot.new) (K.state out.new)) (status_of failure)) }
+    ensures faults { (D.state depot.old).faults ≤ (D.state depot.new).faults }
+    ensures out_faults { (K.state out.old).faults ≤ (K.state out.new).faults }
+    ensures calm { (D.state depot.new).calm ≡ (D.state depot.old).calm }
 {
     match command {
         Command::Run(command) => run(rt.alloc(), command, depot, out),
@@ -57,8 +59,8 @@ pub fn graphm<R: AllocGlobal, D: Depot + Send, K: Sink, E: Sink, G: Gate + Send 
     err: &mut E,
     gate: Arc<G>,
 ) -> (u8, D)
-    ensures { KeepsPromises (call_of words.now (depot_change ⟦<D as Depot>⟧ depot result.1)
-        (sink_change ⟦<K as Sink>⟧ out.old out.new) (sink_change ⟦<E as Sink>⟧ err.old err.new) result.0) }
+    ensures { KeepsPromises (call_of words.now (outside (D.state depot) (K.state out.old))
+        (outside (D.state result.1) (K.state out.new)) (E.state err.old) (E.state err.new) result.0) }
 {
     let mut depot = depot;
     drop(gate);

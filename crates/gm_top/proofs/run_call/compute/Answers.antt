@@ -1,7 +1,6 @@
 use Rattle.std.specs.Prelude.{◌+◌, Result}
 use Rattle.std.proofs.Common.{List, inl, subst, arith}
 use Rattle.gm_base.specs.declared.limits.TheConstants.{MAX_CHUNKS}
-use Rattle.gm_outside.specs.Calls.{depot_change}
 use Rattle.gm_outside.specs.FramesRules.{only_reads-then}
 use Rattle.gm_label.specs.Catalogues.{Catalogue}
 use Rattle.gm_jobs.specs.declared.script.Line.{Line}
@@ -17,18 +16,18 @@ use Rattle.gm_top.proofs.run_call.compute.Goals as goal
 pub returns-clause-lines : goal.returns-clause-lines
 returns-clause-lines g c =
     let command = run_said c.args.command.now in
-    let files = subst (λ (r : Result (Catalogue × List Line) Failure). ReadsFiles (3 + MAX_CHUNKS) (files_reading command) (depot_change g.D.Depot c.args.depot.now c.load.new.depot) r) c.in_ok-cat.was c.load.ensures.reads in
+    let files = subst (λ (r : Result (Catalogue × List Line) Failure). ReadsFiles 2 (3 + MAX_CHUNKS) (files_reading command) (g.D.Depot.state c.args.depot.now) (g.D.Depot.state c.load.new.depot) r) c.in_ok-cat.was c.load.ensures.reads in
     let graphs : Graphs = λ bytes size cat is. (c.catalogues_are_over_their_edges.ensures.graph bytes size cat is, (c.catalogues_are_over_their_edges.ensures.dimensions bytes size cat is).some_vertex) in
-    lines_reported g.D.Depot _ _ _ command c.in_ok-cat.cat c.in_ok-cat.script c.run_loaded.result files c.in_ok-cat.ensures.read c.grid_reads_back.ensures.edges c.jobs_settle_by_round_n.ensures.bound c.snapshots_are_graphs.ensures graphs
+    lines_reported (g.D.Depot.state c.args.depot.now) (g.D.Depot.state c.load.new.depot) (g.D.Depot.state c.run_loaded.new.depot) command c.in_ok-cat.cat c.in_ok-cat.script c.run_loaded.result files c.in_ok-cat.ensures.read c.grid_reads_back.ensures.edges c.jobs_settle_by_round_n.ensures.bound c.snapshots_are_graphs.ensures graphs
     (c.jobs_see_vertices.ensures.vertices _ c.in_ok-cat.script c.in_ok-cat.ensures.over)
     c.in_ok-cat.ensures.states c.in_ok-cat.ensures.holds c.run_loaded.ensures.lines c.run_loaded.ensures.ends c.run_loaded.ensures.faults
 
 pub returns-clause-reads : goal.returns-clause-reads
 returns-clause-reads g c =
     let command = run_said c.args.command.now in
-    let files = c.load.ensures.reads in
+    let frame = c.in_ok-cat.ensures.frame in
     let ran = c.run_loaded.ensures.frame in
-    reads_run-matched command _ c.run_loaded.result c.run_loaded.ensures.memory
-    (reads_run-ran command (depot_change g.D.Depot c.args.depot.now c.run_loaded.new.depot) 0 (g.D.Depot.reads c.load.new.depot) (g.D.Depot.files c.load.new.depot) c.in_ok-cat.cat (jobs_of c.in_ok-cat.script)
-    c.grid_reads_back.ensures.edges files.frame.files_kept c.in_ok-cat.ensures.read c.in_ok-cat.ensures.holds c.run_loaded.ensures.few
-    ((3 + MAX_CHUNKS) + ran.0, only_reads-then g.D.Depot _ _ _ (3 + MAX_CHUNKS) ran.0 files.frame ran.1) (inl (omega arith)))
+    reads_run-matched command (g.D.Depot.state c.args.depot.now) (g.D.Depot.state c.run_loaded.new.depot) c.run_loaded.result c.run_loaded.ensures.memory
+    (reads_run-ran command (g.D.Depot.state c.args.depot.now) (g.D.Depot.state c.run_loaded.new.depot) 0 (g.D.Depot.state c.load.new.depot).reads (g.D.Depot.state c.load.new.depot).files c.in_ok-cat.cat (jobs_of c.in_ok-cat.script)
+    c.grid_reads_back.ensures.edges frame.files c.in_ok-cat.ensures.read c.in_ok-cat.ensures.holds c.run_loaded.ensures.few
+    ((3 + MAX_CHUNKS) + ran.0, only_reads-then 2 (3 + MAX_CHUNKS) 0 ran.0 _ _ _ frame ran.1) (inl (omega arith)))

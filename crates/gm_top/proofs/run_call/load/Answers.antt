@@ -2,7 +2,6 @@ use Rattle.std.proofs.Common.{◌+◌, List, Result, subst, ap, ◌∙◌}
 use Rattle.std.proofs.lemmas.Result.{err_from_is_err_and}
 use Rattle.gm_base.specs.Dimensions.{Dimensions}
 use Rattle.gm_base.specs.declared.limits.TheConstants.{MAX_CHUNKS}
-use Rattle.gm_outside.specs.Calls.{depot_change}
 use Rattle.gm_label.specs.Catalogues.{Catalogue}
 use Rattle.gm_jobs.specs.declared.script.Line.{Line}
 use Rattle.gm_commands.specs.declared.failure.Failure.{Failure}
@@ -17,15 +16,15 @@ pub returns-in_err-script-clause-reads : goal.returns-in_err-script-clause-reads
 returns-in_err-script-clause-reads g c =
     let p = err_from_is_err_and c.from_residual-in_err-script.result c.from_residual-in_err-script.ensures.1 in
     let command = run_said c.args.command.now in
-    let first = subst (λ (r : Result Catalogue Failure). ReadsFiles (2 + MAX_CHUNKS) (grid_reading command.grid command.chunk) (depot_change g.D.Depot c.args.depot.now c.load_grid.new.depot) r) c.in_ok-cat.was c.load_grid.ensures.reads in
-    let second = subst (λ (r : Result (List Line) Failure). ReadsFiles 1 (jobs_reading command c.n-n.result) (depot_change g.D.Depot c.load_grid.new.depot c.load_script.new.depot) r) c.in_err-script.was c.load_script.ensures.reads in
-    rw p.1 (rw p.2 (not_loaded g.D.Depot _ _ _ command c.in_ok-cat.cat c.n-n.result _ c.grid_reads_back.ensures.shape
+    let first = subst (λ (r : Result Catalogue Failure). ReadsFiles 1 (2 + MAX_CHUNKS) (grid_reading command.grid command.chunk) (g.D.Depot.state c.args.depot.now) (g.D.Depot.state c.load_grid.new.depot) r) c.in_ok-cat.was c.load_grid.ensures.reads in
+    let second = subst (λ (r : Result (List Line) Failure). ReadsFiles 1 1 (jobs_reading command c.n-n.result) (g.D.Depot.state c.load_grid.new.depot) (g.D.Depot.state c.load_script.new.depot) r) c.in_err-script.was c.load_script.ensures.reads in
+    rw p.1 (rw p.2 (not_loaded (g.D.Depot.state c.args.depot.now) (g.D.Depot.state c.load_grid.new.depot) (g.D.Depot.state c.load_script.new.depot) command c.in_ok-cat.cat c.n-n.result _ c.grid_reads_back.ensures.shape
     (c.n-n.ensures.value ∙ ap (λ (d : Dimensions). d.n) c.shape.ensures) c.in_ok-cat.ensures.catalogue first second))
 
 pub returns-clause-reads : goal.returns-clause-reads
 returns-clause-reads g c =
     let command = run_said c.args.command.now in
-    let first = subst (λ (r : Result Catalogue Failure). ReadsFiles (2 + MAX_CHUNKS) (grid_reading command.grid command.chunk) (depot_change g.D.Depot c.args.depot.now c.load_grid.new.depot) r) c.in_ok-cat.was c.load_grid.ensures.reads in
-    let second = subst (λ (r : Result (List Line) Failure). ReadsFiles 1 (jobs_reading command c.n-n.result) (depot_change g.D.Depot c.load_grid.new.depot c.load_script.new.depot) r) c.in_ok-script.was c.load_script.ensures.reads in
-    loaded g.D.Depot _ _ _ command c.in_ok-cat.cat c.n-n.result c.in_ok-script.script _ c.grid_reads_back.ensures.shape
+    let first = subst (λ (r : Result Catalogue Failure). ReadsFiles 1 (2 + MAX_CHUNKS) (grid_reading command.grid command.chunk) (g.D.Depot.state c.args.depot.now) (g.D.Depot.state c.load_grid.new.depot) r) c.in_ok-cat.was c.load_grid.ensures.reads in
+    let second = subst (λ (r : Result (List Line) Failure). ReadsFiles 1 1 (jobs_reading command c.n-n.result) (g.D.Depot.state c.load_grid.new.depot) (g.D.Depot.state c.load_script.new.depot) r) c.in_ok-script.was c.load_script.ensures.reads in
+    loaded (g.D.Depot.state c.args.depot.now) (g.D.Depot.state c.load_grid.new.depot) (g.D.Depot.state c.load_script.new.depot) command c.in_ok-cat.cat c.n-n.result c.in_ok-script.script _ c.grid_reads_back.ensures.shape
     (c.n-n.ensures.value ∙ ap (λ (d : Dimensions). d.n) c.shape.ensures) c.in_ok-cat.ensures.catalogue first second

@@ -13,7 +13,7 @@ returns-in-Ok-clause-handles g c = record {
     report = record {
       lines = c.in_ok-lines.lines.items;
       reported = c.in_ok-lines.ensures.lines;
-      written = subst (λ (lines : List JobLine). GrewBy (g.K.Sink.written c.args.out.now) (g.K.Sink.written c.write.new.out) (report_text lines)) c.deref.ensures.value c.in-Ok.ensures.ok;
+      written = subst (λ (lines : List JobLine). GrewBy (g.K.Sink.state c.args.out.now).written (g.K.Sink.state c.write.new.out).written (report_text lines)) c.deref.ensures.value c.in-Ok.ensures.ok;
     };
     status_is = c.status_after.ensures.value ∙ ap status_after c.deref-in-Ok.ensures.value;
   };

@@ -1,27 +1,27 @@
-use Rattle.std.specs.Prelude.{◌+◌, ◌≤◌, ℕ, List}
+use Rattle.std.specs.Prelude.{ℕ, List}
 use Rattle.std.proofs.Common.{subst}
-use Rattle.gm_outside.specs.Calls.{depot_change}
 use Rattle.gm_grid.specs.GridBytes.{edges_in}
 use Rattle.gm_label.specs.Catalogues.{Catalogue}
 use Rattle.gm_source.specs.Fetches.{TellsGrid}
+use Rattle.gm_source.specs.Openings.{ReadsUpTo}
 use Rattle.gm_jobs.specs.StatedJobs.{jobs_of}
 use Rattle.gm_job_run.specs.JobLines.{RunOver, runs_weight}
 use Rattle.gm_top.proofs.run_call.run_loaded.Goals as goal
 
 pub returns-in-Ok-run_script-clause-ends : goal.returns-in-Ok-run_script-clause-ends
 returns-in-Ok-run_script-clause-ends g c =
-    subst (λ (cat : Catalogue). (bytes : List ℕ) → TellsGrid (g.D.Depot.files c.args.depot.now) c.args.name.now cat bytes
-    → RunOver cat (edges_in bytes) (depot_change g.D.Depot c.args.depot.now c.run_script.new.depot) (jobs_of c.args.script) c.in-Ok-run_script.lines.items)
+    subst (λ (cat : Catalogue). (bytes : List ℕ) → TellsGrid (g.D.Depot.state c.args.depot.now).files c.args.name.now cat bytes
+    → RunOver cat (edges_in bytes) (g.D.Depot.state c.args.depot.now) (g.D.Depot.state c.run_script.new.depot) (jobs_of c.args.script) c.in-Ok-run_script.lines.items)
     c.in-Ok.ensures.ok c.in-Ok-run_script.ensures.ends
 
 pub returns-in-Ok-run_script-clause-few : goal.returns-in-Ok-run_script-clause-few
 returns-in-Ok-run_script-clause-few g c =
-    subst (λ (cat : Catalogue). (bytes : List ℕ) → TellsGrid (g.D.Depot.files c.args.depot.now) c.args.name.now cat bytes
-    → g.D.Depot.reads c.run_script.new.depot ≤ g.D.Depot.reads c.args.depot.now + runs_weight cat (edges_in bytes) (jobs_of c.args.script))
+    subst (λ (cat : Catalogue). (bytes : List ℕ) → TellsGrid (g.D.Depot.state c.args.depot.now).files c.args.name.now cat bytes
+    → ReadsUpTo (runs_weight cat (edges_in bytes) (jobs_of c.args.script)) (g.D.Depot.state c.args.depot.now) (g.D.Depot.state c.run_script.new.depot))
     c.in-Ok.ensures.ok c.run_script.ensures.few
 
 pub returns-clause-few : goal.returns-clause-few
 returns-clause-few g c =
-    subst (λ (cat : Catalogue). (bytes : List ℕ) → TellsGrid (g.D.Depot.files c.args.depot.now) c.args.name.now cat bytes
-    → g.D.Depot.reads c.run_script.new.depot ≤ g.D.Depot.reads c.args.depot.now + runs_weight cat (edges_in bytes) (jobs_of c.args.script))
+    subst (λ (cat : Catalogue). (bytes : List ℕ) → TellsGrid (g.D.Depot.state c.args.depot.now).files c.args.name.now cat bytes
+    → ReadsUpTo (runs_weight cat (edges_in bytes) (jobs_of c.args.script)) (g.D.Depot.state c.args.depot.now) (g.D.Depot.state c.run_script.new.depot))
     c.in-Ok.ensures.ok c.run_script.ensures.few
