@@ -92,7 +92,6 @@ module _ (d : Dimensions) (site : ℕ → Site) (sources : ℕ → List ℕ) (ba
   all_of zero n = left_after e changes n
   all_of (suc more) n = count_after e changes n
 
-
   counts : (chunks : List ℕ) (last : ℕ) → ((c : ℕ) → AllByRecursion (IsPlaced d (site c) (sources c)) (base c))
       → last < 2 → count_by takes chunks ≡ last
       → count_of e (flat_map content chunks) ≡ all_of last (count_of e (flat_map base chunks))
