@@ -27,8 +27,8 @@ pub fn changes_go_in_order()
         ≡ edge 1 2 1 ∷ edge 0 2 5 ∷ edge 2 3 1 ∷ [] }
     ensures add_cut_add { edges_after added_twice path_with_shortcut
         ≡ edge 0 1 1 ∷ edge 1 2 1 ∷ edge 0 2 5 ∷ edge 2 3 1 ∷ edge 3 0 2 ∷ [] }
-    ensures adds { let changes = Change.Add (edge 3 0 1) ∷ Change.Add (edge 1 0 1) ∷ Change.Add (edge 3 0 1) ∷ [] in
-        edges_after changes []
+    ensures adds { let again = Change.Add (edge 3 0 1) in
+        edges_after (again ∷ Change.Add (edge 1 0 1) ∷ again ∷ []) []
         ≡ edge 3 0 1 ∷ edge 1 0 1 ∷ edge 3 0 1 ∷ [] }
 {}
 

@@ -1,30 +1,25 @@
 -- What the bytes of a grid are read as, and which bytes aren't refused.
-use Rattle.std.proofs.Common.{◌≡◌, ◌↔◌, ℕ, zero, suc, ◌+◌, ◌-◌, ◌*◌, ◌/◌, ◌<◌, ◌≤◌, ◌^◌, Bool, true, false, cond, List, [], ◌∷◌, ◌++◌, length, map, take, drop, sum, get_or, Option, Some, None, Result, Ok, Err, inl, inr, refl, sym, ap, ◌∙◌, subst, arith}
+use Rattle.std.proofs.Common.{◌≡◌, ℕ, zero, suc, ◌+◌, ◌*◌, ◌/◌, ◌<◌, ◌≤◌, ◌^◌, Bool, true, false, cond, List, [], ◌∷◌, ◌++◌, length, map, take, drop, sum, get_or, Option, Some, None, inl, inr, refl, sym, ap, ◌∙◌, arith}
 use Rattle.std.specs.List.{All, AllByRecursion, flat_map, position}
-use Rattle.std.specs.Option.{option_map, option_or}
+use Rattle.std.specs.Option.{option_map}
 use Rattle.std.specs.Simd.{first_chunks}
 use Rattle.std.proofs.lemmas.Bool.{cases_lt, and_parts, and_from, leb-true, le-leb, le-ltb, ltb-false, ltb-true, eq-eqb, eqb-true, not-false, not_from_true}
 use Rattle.std.proofs.lemmas.List.{append-nil, take_at, drop_at, take-append-drop, length-append, length-map, length-take-le, length-drop, take_all, get_or_past, drop-drop}
 use Rattle.std.proofs.lemmas.List.Elements.{All-weaker, All-from_recursion, recursion_from_All}
-use Rattle.std.proofs.lemmas.Option.{none-some, same_Some}
+use Rattle.std.proofs.lemmas.Option.{none-some}
 use Rattle.std.proofs.lemmas.Slice.Eq.{bytes_eq-Decides}
 use Rattle.byteorder.specs.Endian.{little_bytes, little_number}
 use Rattle.byteorder.specs.Numbers.{little_number-reads_back, little_from-lt}
 use Rattle.gm_base.specs.declared.edge.Edge.{Edge}
 use Rattle.gm_base.specs.declared.limits.TheConstants.{MAX_VERTICES, MAX_PARTS, MAX_EDGES}
-use Rattle.gm_base.specs.Dimensions.{Dimensions, AreDimensions, are_dimensions}
-use Rattle.gm_base.specs.Graph.{HasEndsBelow, IsGraph}
-use Rattle.gm_grid.specs.declared.grid_error.GridError.{GridError}
+use Rattle.gm_base.specs.Dimensions.{AreDimensions, are_dimensions}
 use Rattle.gm_grid.specs.declared.grid_error.GridError.TheVariants.{BadEdge}
-use Rattle.gm_grid.specs.declared.grid_error.ReadError.{ReadError}
-use Rattle.gm_grid.specs.declared.grid_error.ReadError.TheVariants.{Grid, Memory}
 use Rattle.gm_grid.specs.Format.{magic, head_bytes, index_bytes, edge_bytes, edges_of_grid, grid_bytes, dimensions_of, is_in_block, FitsBlock, IsGrid}
 use Rattle.gm_grid.specs.GridBytes.{shape_of_head, counts_of_index, edge_of_bytes, edges_of_bytes, blocks_of, placed_edges, index_size, index_end, grid_file_size, shape_in, counts_in, edges_in, blocks_in}
 use Rattle.gm_grid.specs.GridBytesRules.{length-first_chunks}
-use Rattle.gm_grid.specs.GridRefusals.{head_refusal, is_misplaced, refusal_by_head, refusal_by_index, refusal_by_chunks, refusal_by_edges, grid_refusal, unchunked_refusal, answered_refusal}
-use Rattle.gm_grid.specs.GridRefusalsRules.{option_or-None, option_or-split, option_or-skip, option_or-nothing, refused_behind_index}
-use Rattle.gm_grid.proofs.FieldBytes.{AreBytes, AreBytes-take, AreBytes-drop, whole_number, edge_bytes-edge_of_bytes, head_bytes-fields}
-use Rattle.gm_grid.proofs.FixedSizes.{written_again, read_again, length-written}
+use Rattle.gm_grid.specs.GridRefusals.{head_refusal, is_misplaced, refusal_by_head, refusal_by_index, refusal_by_chunks, refusal_by_edges, grid_refusal}
+use Rattle.gm_grid.specs.GridRefusalsRules.{option_or-None, option_or-split, option_or-nothing, refused_behind_index}
+use Rattle.gm_grid.proofs.FieldBytes.{AreBytes, AreBytes-take, AreBytes-drop, whole_number, edge_bytes-edge_of_bytes, head_bytes-fields, written_again, read_again, length-written}
 use Rattle.gm_grid.proofs.BlockCuts.{blocks_of-edges_of_grid, sum-lengths, length-blocks_of, edges_of_grid-blocks_of, lengths-blocks_of, All-blocks_of, All-edges_of_grid, none_misplaced, all_placed}
 
 -- its numbers have four bytes each
@@ -107,17 +102,6 @@ small_numbers n parts blocks few places =
     let weight = fits.weight in
     (omega arith, omega arith, omega arith))
     (get_or blocks k []) (places k))
-
--- the edges of a grid are a graph
-pub IsGraph-edges_of_grid : (bytes : List ℕ) (n parts : ℕ) (blocks : List (List Edge)) → IsGrid bytes n parts blocks → IsGraph n (edges_of_grid blocks)
-IsGraph-edges_of_grid bytes n parts blocks grid =
-    All-edges_of_grid (HasEndsBelow n) blocks
-    (λ k. All-weaker (FitsBlock (dimensions_of n parts) k) (HasEndsBelow n)
-    (λ e fits.
-    let p = and_parts _ _ fits.place in
-    let q = and_parts _ _ p.0 in
-    (ltb-true e.from n q.0, ltb-true e.to n q.1))
-    (get_or blocks k []) (grid.places k))
 
 head-reads : (n parts : ℕ) → AreDimensions n parts → shape_of_head (head_bytes n parts) ≡ dimensions_of n parts
 head-reads n parts dims =
@@ -242,12 +226,6 @@ refusal_by_edges-IsGrid bytes n parts blocks grid =
     ∙ ap (option_map BadEdge) placed
 
 -- a grid isn't refused, unless it has too many chunks
-pub unchunked_refusal-IsGrid : (bytes : List ℕ) (n parts : ℕ) (blocks : List (List Edge)) → IsGrid bytes n parts blocks → unchunked_refusal bytes ≡ None
-unfolding unchunked_refusal
-unchunked_refusal-IsGrid bytes n parts blocks grid =
-    let passes = passes-IsGrid bytes n parts blocks grid in
-    option_or-None passes.by_head (option_or-None passes.by_index (refusal_by_edges-IsGrid bytes n parts blocks grid))
-
 pub grid_refusal-IsGrid : (chunk_size : ℕ) (bytes : List ℕ) (n parts : ℕ) (blocks : List (List Edge)) → IsGrid bytes n parts blocks
     → grid_refusal chunk_size bytes ≡ refusal_by_chunks chunk_size (map (λ b. length b) blocks)
 grid_refusal-IsGrid chunk_size bytes n parts blocks grid =
@@ -387,13 +365,6 @@ record Unrefused (bytes : List ℕ) : Type 0 where
   passes : Passes (length bytes) (take 16 bytes) (counts_in bytes)
   by_edges : refusal_by_edges (shape_in bytes) (counts_in bytes) (edges_in bytes) ≡ None
 
-unchunked_refusal-None : (bytes : List ℕ) → unchunked_refusal bytes ≡ None → Unrefused bytes
-unfolding unchunked_refusal
-unchunked_refusal-None bytes none =
-    let a = option_or-split _ _ none in
-    let b = option_or-split _ _ a.1 in
-    record { passes = record { by_head = a.0; by_index = b.0 }; by_edges = b.1 }
-
 grid_refusal-None : (chunk_size : ℕ) (bytes : List ℕ) → grid_refusal chunk_size bytes ≡ None → Unrefused bytes
 unfolding grid_refusal
 grid_refusal-None chunk_size bytes none =
@@ -403,11 +374,6 @@ grid_refusal-None chunk_size bytes none =
     record { passes = record { by_head = a.0; by_index = b.0 }; by_edges = c.1 }
 
 -- bytes that aren't refused are a grid
-pub IsGrid-from_unchunked : (bytes : List ℕ) → AreBytes bytes → unchunked_refusal bytes ≡ None
-    → IsGrid bytes (shape_in bytes).n (shape_in bytes).parts (blocks_in bytes)
-IsGrid-from_unchunked bytes small none =
-    let unrefused = unchunked_refusal-None bytes none in IsGrid-from_parts bytes small unrefused.passes unrefused.by_edges
-
 pub IsGrid-from_chunked : (chunk_size : ℕ) (bytes : List ℕ) → AreBytes bytes → grid_refusal chunk_size bytes ≡ None
     → IsGrid bytes (shape_in bytes).n (shape_in bytes).parts (blocks_in bytes)
 IsGrid-from_chunked chunk_size bytes small none =
@@ -432,65 +398,3 @@ AreBytes-from_All bytes all k =
           let none : get_or bytes k 0 ≡ 0 = get_or_past bytes k 0 past in
           omega arith
     ]
-
--- what was refused, from what the answer tells
-pub refused_iff : {X : Type 0} (r : Result X ReadError) (o : Option GridError) (e : GridError) → answered_refusal r ≡ o → (r ≡ Err (Grid e)) ↔ (o ≡ Some e)
-refused_iff r o e is = ((λ h. sym is ∙ ap answered_refusal h), (λ h. told r e (is ∙ h))) where
-  told : {X : Type 0} (r : Result X ReadError) (e : GridError) → answered_refusal r ≡ Some e → r ≡ Err (Grid e)
-  told (Ok x) e h = absurd (none-some e h)
-  told (Err (Grid f)) e h = ap (λ (g : GridError). Err (Grid g)) (same_Some f e h)
-  told (Err Memory) e h = absurd (none-some e h)
-
--- What was read of bytes that aren't refused.
-pub record IsReadWhole (bytes : List ℕ) (d : Dimensions) (edges : List Edge) : Type 0 where
-  pub grid : (blocks : List (List Edge)) × IsGrid bytes d.n d.parts blocks × (edges ≡ edges_of_grid blocks)
-  pub graph : IsGraph d.n edges
-  pub few : length edges ≤ MAX_EDGES
-
-pub is_read_whole : (bytes : List ℕ) (d : Dimensions) (edges : List Edge) → AreBytes bytes → unchunked_refusal bytes ≡ None
-    → d ≡ shape_in bytes → edges ≡ edges_in bytes → IsReadWhole bytes d edges
-is_read_whole bytes d edges small none is_shape are_edges =
-    let blocks = blocks_in bytes in
-    let told : edges ≡ edges_of_grid blocks = are_edges ∙ sym (edges_of_grid-blocks_in bytes (unchunked_refusal-None bytes none).passes) in
-    let grid : IsGrid bytes d.n d.parts blocks =
-    subst (λ (x : Dimensions). IsGrid bytes x.n x.parts blocks) (sym is_shape) (IsGrid-from_unchunked bytes small none) in
-    record {
-      grid = (blocks, grid, told);
-      graph = rw told (IsGraph-edges_of_grid bytes d.n d.parts blocks grid);
-      few = rw told grid.most;
-    }
-
--- What a file tells that was cut behind its head and behind its index.
-pub record FileCut (bytes edges : List ℕ) (counts : List (List ℕ)) (d : Dimensions) : Type 0 where
-  pub shape_told : d ≡ shape_in bytes
-  pub edges_told : edges_of_bytes edges ≡ edges_in bytes
-  pub refusal : option_or (refusal_by_index (16 + 8 * length counts + length edges) (map (little_number 8) counts))
-      (refusal_by_edges d (map (little_number 8) counts) (edges_of_bytes edges)) ≡ unchunked_refusal bytes
-
-pub file_cut : (bytes head rest index edges : List ℕ) (counts : List (List ℕ)) (d : Dimensions)
-    → head ≡ take 16 bytes → rest ≡ drop 16 bytes → length rest + 16 ≡ length bytes → d ≡ shape_of_head head → None ≡ head_refusal head
-    → index_size d ≤ length rest → index ≡ take (index_size d) rest → edges ≡ drop (index_size d) rest
-    → counts ≡ first_chunks 8 (length index / 8) index → FileCut bytes edges counts d
-unfolding unchunked_refusal
-file_cut bytes head rest index edges counts d is_head is_rest whole is_shape good indexed is_index are_edges are_counts =
-    let shape : d ≡ shape_in bytes = is_shape ∙ ap shape_of_head is_head in
-    let told_index : index ≡ index_part bytes = is_index ∙ (λ i. take (index_size (shape i)) (is_rest i)) in
-    let told_edges : edges ≡ edges_part bytes = are_edges ∙ (λ i. drop (index_size (shape i)) (is_rest i)) ∙ sym (edges_part-behind_index bytes) in
-    let told_counts : map (little_number 8) counts ≡ counts_in bytes = ap (map (little_number 8)) are_counts ∙ ap counts_of_index told_index in
-    let index_length : length index ≡ index_size d = ap length is_index ∙ length-take-le (index_size d) rest indexed in
-    let many : length counts ≡ length index / 8 = ap length are_counts ∙ length-first_chunks 8 (length index / 8) index in
-    let edges_length : length edges ≡ length rest - index_size d = ap length are_edges ∙ length-drop (index_size d) rest in
-    let size : 16 + 8 * length counts + length edges ≡ length bytes = omega arith in
-    let square : index_size d ≡ index_size (shape_in bytes) = ap index_size shape in
-    let long : 16 ≤ length bytes = omega arith in
-    let room : index_end (shape_in bytes) ≤ length bytes = omega arith in
-    let by_head : refusal_by_head (length bytes) (take 16 bytes) ≡ None =
-    option_or-None (none_if _ (le-ltb _ _ long) refl) (option_or-None (ap head_refusal (sym is_head) ∙ sym good) (none_if _ (le-ltb _ _ room) refl)) in
-    let by_index = refusal_by_index (length bytes) (counts_in bytes) in
-    let by_edges = refusal_by_edges (shape_in bytes) (counts_in bytes) (edges_in bytes) in
-    record {
-      shape_told = shape;
-      edges_told = ap edges_of_bytes told_edges;
-      refusal = (λ i. option_or (refusal_by_index (size i) (told_counts i)) (refusal_by_edges (shape i) (told_counts i) (edges_of_bytes (told_edges i))))
-          ∙ sym (option_or-skip (refusal_by_head (length bytes) (take 16 bytes)) (option_or by_index by_edges) by_head);
-    }

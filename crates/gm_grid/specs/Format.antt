@@ -4,6 +4,7 @@ use Rattle.byteorder.specs.Endian.{little_bytes}
 use Rattle.gm_base.specs.declared.edge.Edge.{Edge}
 use Rattle.gm_base.specs.Dimensions.{Dimensions, AreDimensions, block_of}
 use Rattle.gm_grid.specs.declared.placement.BlockRanges.{BlockRanges}
+use Rattle.gm_grid.specs.declared.sizes.TheConstants.{ENTRY_SIZE}
 use Rattle.gm_base.specs.declared.limits.TheConstants.{MAX_EDGES}
 
 -- what a grid's file begins with
@@ -15,7 +16,7 @@ head_bytes n parts = magic ++ (little_bytes 4 n ++ little_bytes 4 parts)
 
 -- how many edges a block has
 abbrev pub count_bytes : ℕ → List ℕ
-count_bytes count = little_bytes 8 count
+count_bytes count = little_bytes ENTRY_SIZE count
 
 -- the number of edges of each block, row by row
 abbrev pub index_bytes : List (List Edge) → List ℕ

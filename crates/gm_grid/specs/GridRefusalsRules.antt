@@ -10,9 +10,10 @@ use Rattle.gm_base.specs.declared.edge.Edge.{Edge}
 use Rattle.gm_base.specs.Dimensions.{Dimensions}
 use Rattle.gm_grid.specs.declared.grid_error.GridError.{GridError}
 use Rattle.gm_grid.specs.declared.grid_error.GridError.TheVariants.{BadSize, BadEdge}
+use Rattle.gm_grid.specs.declared.sizes.TheConstants.{HEAD_SIZE}
 use Rattle.gm_grid.specs.Format.{is_in_block}
 use Rattle.gm_grid.specs.GridBytes.{shape_of_head, blocks_of, placed_edges, index_end, grid_file_size, shape_in, counts_in, edges_in}
-use Rattle.gm_grid.specs.GridRefusals.{short_refusal, head_refusal, index_refusal, size_refusal, is_misplaced, refusal_by_head, refusal_by_index, refusal_by_chunks, refusal_by_edges, grid_refusal}
+use Rattle.gm_grid.specs.GridRefusals.{short_refusal, head_refusal, index_refusal, size_refusal, is_misplaced, refusal_by_head, refusal_by_index, refusal_by_chunks, refusal_by_edges, grid_refusal, HasGoodHead, HasGoodIndex}
 
 -- the first of two, where it is there, where it isn't, and where neither is
 pub option_or-Some : {A : Type 0} (a b : Option A) (x : A) → a ≡ Some x → option_or a b ≡ Some x
@@ -32,27 +33,21 @@ pub option_or-nothing : {A : Type 0} (a b : Option A) → b ≡ None → option_
 option_or-nothing None b none = none
 option_or-nothing (Some x) b none = refl
 
-is_short : (size least : ℕ) → size < least → short_refusal size least ≡ Some (BadSize size least)
-is_short size least short = rw (lt-ltb size least short) refl
-
-is_long : (size least : ℕ) → least ≤ size → short_refusal size least ≡ None
-is_long size least long = rw (le-ltb size least long) refl
+-- what is refused behind the index
+abbrev behind_index : ℕ → List ℕ → Option GridError
+behind_index chunk_size bytes =
+    option_or (refusal_by_chunks chunk_size (counts_in bytes)) (refusal_by_edges (shape_in bytes) (counts_in bytes) (edges_in bytes))
 
 -- what each step by the head refuses, where the steps before it refuse nothing
-pub refusal_by_head-short : (size : ℕ) (head : List ℕ) → size < 16 → refusal_by_head size head ≡ Some (BadSize size 16)
-refusal_by_head-short size head short =
-    option_or-Some (short_refusal size 16) _ (BadSize size 16) (is_short size 16 short)
+pub refusal_by_head-short : (size : ℕ) (head : List ℕ) → size < HEAD_SIZE → refusal_by_head size head ≡ Some (BadSize size HEAD_SIZE)
+refusal_by_head-short size head short = rw (lt-ltb size HEAD_SIZE short) refl
 
-pub refusal_by_head-head : (size : ℕ) (head : List ℕ) (e : GridError) → 16 ≤ size → head_refusal head ≡ Some e → refusal_by_head size head ≡ Some e
-refusal_by_head-head size head e long refused =
-    option_or-skip (short_refusal size 16) (option_or (head_refusal head) (short_refusal size (index_end (shape_of_head head)))) (is_long size 16 long)
-    ∙ option_or-Some (head_refusal head) (short_refusal size (index_end (shape_of_head head))) e refused
+pub refusal_by_head-head : (size : ℕ) (head : List ℕ) (e : GridError) → HEAD_SIZE ≤ size → head_refusal head ≡ Some e → refusal_by_head size head ≡ Some e
+refusal_by_head-head size head e long refused = rw (le-ltb size HEAD_SIZE long, refused) refl
 
-pub refusal_by_head-index : (size : ℕ) (head : List ℕ) → 16 ≤ size → head_refusal head ≡ None
+pub refusal_by_head-index : (size : ℕ) (head : List ℕ) → HEAD_SIZE ≤ size → head_refusal head ≡ None
     → refusal_by_head size head ≡ short_refusal size (index_end (shape_of_head head))
-refusal_by_head-index size head long good =
-    option_or-skip (short_refusal size 16) (option_or (head_refusal head) (short_refusal size (index_end (shape_of_head head)))) (is_long size 16 long)
-    ∙ option_or-skip (head_refusal head) (short_refusal size (index_end (shape_of_head head))) good
+refusal_by_head-index size head long good = rw (le-ltb size HEAD_SIZE long, good) refl
 
 -- and each step by the index
 pub refusal_by_index-index : (size : ℕ) (counts : List ℕ) (e : GridError) → index_refusal counts ≡ Some e → refusal_by_index size counts ≡ Some e
@@ -60,51 +55,39 @@ refusal_by_index-index size counts e refused = option_or-Some (index_refusal cou
 
 pub refusal_by_index-size : (size : ℕ) (counts : List ℕ) → index_refusal counts ≡ None
     → refusal_by_index size counts ≡ size_refusal size (grid_file_size (length counts) (sum counts))
-refusal_by_index-size size counts good = option_or-skip (index_refusal counts) (size_refusal size (grid_file_size (length counts) (sum counts))) good
-
--- what is refused behind the index, and behind the head
-abbrev behind_index : ℕ → List ℕ → Option GridError
-behind_index chunk_size bytes =
-    option_or (refusal_by_chunks chunk_size (counts_in bytes)) (refusal_by_edges (shape_in bytes) (counts_in bytes) (edges_in bytes))
-
-abbrev behind_head : ℕ → List ℕ → Option GridError
-behind_head chunk_size bytes = option_or (refusal_by_index (length bytes) (counts_in bytes)) (behind_index chunk_size bytes)
+refusal_by_index-size size counts good = option_or-skip (index_refusal counts) _ good
 
 -- each stage's refusal is the file's, where the stages before it refuse nothing
-pub refused_by_head : (chunk_size : ℕ) (bytes : List ℕ) (e : GridError) → refusal_by_head (length bytes) (take 16 bytes) ≡ Some e
+pub refused_by_head : (chunk_size : ℕ) (bytes : List ℕ) (e : GridError) → refusal_by_head (length bytes) (take HEAD_SIZE bytes) ≡ Some e
     → grid_refusal chunk_size bytes ≡ Some e
 unfolding grid_refusal
-refused_by_head chunk_size bytes e refused = option_or-Some (refusal_by_head (length bytes) (take 16 bytes)) (behind_head chunk_size bytes) e refused
+refused_by_head chunk_size bytes e refused = option_or-Some (refusal_by_head (length bytes) (take HEAD_SIZE bytes)) _ e refused
 
-pub refused_by_index : (chunk_size : ℕ) (bytes : List ℕ) (e : GridError) → refusal_by_head (length bytes) (take 16 bytes) ≡ None
+refused_behind_head : (chunk_size : ℕ) (bytes : List ℕ) → HasGoodHead bytes
+    → grid_refusal chunk_size bytes ≡ option_or (refusal_by_index (length bytes) (counts_in bytes)) (behind_index chunk_size bytes)
+unfolding grid_refusal
+refused_behind_head chunk_size bytes head = option_or-skip (refusal_by_head (length bytes) (take HEAD_SIZE bytes)) _ head
+
+pub refused_by_index : (chunk_size : ℕ) (bytes : List ℕ) (e : GridError) → HasGoodHead bytes
     → refusal_by_index (length bytes) (counts_in bytes) ≡ Some e → grid_refusal chunk_size bytes ≡ Some e
-unfolding grid_refusal
 refused_by_index chunk_size bytes e head refused =
-    option_or-skip (refusal_by_head (length bytes) (take 16 bytes)) (behind_head chunk_size bytes) head
-    ∙ option_or-Some (refusal_by_index (length bytes) (counts_in bytes)) (behind_index chunk_size bytes) e refused
+    refused_behind_head chunk_size bytes head ∙ option_or-Some (refusal_by_index (length bytes) (counts_in bytes)) _ e refused
 
-pub refused_behind_index : (chunk_size : ℕ) (bytes : List ℕ) → refusal_by_head (length bytes) (take 16 bytes) ≡ None
-    → refusal_by_index (length bytes) (counts_in bytes) ≡ None
-    → grid_refusal chunk_size bytes
-    ≡ option_or (refusal_by_chunks chunk_size (counts_in bytes)) (refusal_by_edges (shape_in bytes) (counts_in bytes) (edges_in bytes))
-unfolding grid_refusal
+pub refused_behind_index : (chunk_size : ℕ) (bytes : List ℕ) → HasGoodHead bytes → HasGoodIndex bytes
+    → grid_refusal chunk_size bytes ≡ behind_index chunk_size bytes
 refused_behind_index chunk_size bytes head index =
-    option_or-skip (refusal_by_head (length bytes) (take 16 bytes)) (behind_head chunk_size bytes) head
-    ∙ option_or-skip (refusal_by_index (length bytes) (counts_in bytes)) (behind_index chunk_size bytes) index
+    refused_behind_head chunk_size bytes head ∙ option_or-skip (refusal_by_index (length bytes) (counts_in bytes)) _ index
 
-pub refused_by_chunks : (chunk_size : ℕ) (bytes : List ℕ) (e : GridError) → refusal_by_head (length bytes) (take 16 bytes) ≡ None
-    → refusal_by_index (length bytes) (counts_in bytes) ≡ None → refusal_by_chunks chunk_size (counts_in bytes) ≡ Some e
-    → grid_refusal chunk_size bytes ≡ Some e
+pub refused_by_chunks : (chunk_size : ℕ) (bytes : List ℕ) (e : GridError) → HasGoodHead bytes → HasGoodIndex bytes
+    → refusal_by_chunks chunk_size (counts_in bytes) ≡ Some e → grid_refusal chunk_size bytes ≡ Some e
 refused_by_chunks chunk_size bytes e head index refused =
-    refused_behind_index chunk_size bytes head index
-    ∙ option_or-Some (refusal_by_chunks chunk_size (counts_in bytes)) (refusal_by_edges (shape_in bytes) (counts_in bytes) (edges_in bytes)) e refused
+    refused_behind_index chunk_size bytes head index ∙ option_or-Some (refusal_by_chunks chunk_size (counts_in bytes)) _ e refused
 
-pub refused_by_edges : (chunk_size : ℕ) (bytes : List ℕ) → refusal_by_head (length bytes) (take 16 bytes) ≡ None
-    → refusal_by_index (length bytes) (counts_in bytes) ≡ None → refusal_by_chunks chunk_size (counts_in bytes) ≡ None
+pub refused_by_edges : (chunk_size : ℕ) (bytes : List ℕ) → HasGoodHead bytes → HasGoodIndex bytes
+    → refusal_by_chunks chunk_size (counts_in bytes) ≡ None
     → grid_refusal chunk_size bytes ≡ refusal_by_edges (shape_in bytes) (counts_in bytes) (edges_in bytes)
 refused_by_edges chunk_size bytes head index chunks =
-    refused_behind_index chunk_size bytes head index
-    ∙ option_or-skip (refusal_by_chunks chunk_size (counts_in bytes)) (refusal_by_edges (shape_in bytes) (counts_in bytes) (edges_in bytes)) chunks
+    refused_behind_index chunk_size bytes head index ∙ option_or-skip (refusal_by_chunks chunk_size (counts_in bytes)) _ chunks
 
 -- the first bad edge of a file is its first misplaced one
 pub refusal_by_edges-position : (d : Dimensions) (counts : List ℕ) (edges : List Edge)

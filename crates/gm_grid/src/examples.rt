@@ -1,10 +1,10 @@
 //! The definitions of the format, computed on small files that were worked out by hand.
-#![tactic(auto, unfolding(crate::specs::GridRefusals::grid_refusal, crate::specs::GridRefusals::unchunked_refusal, crate::specs::GridRefusals::head_refusal, crate::specs::GridRefusals::refusal_by_edges))]
+#![tactic(auto, unfolding(crate::specs::GridRefusals::grid_refusal, crate::specs::GridRefusals::head_refusal, crate::specs::GridRefusals::refusal_by_edges))]
 
 ghost use Rattle.std.specs.Prelude.{◌≡◌, Some, None, [], ◌∷◌, take};
 ghost use Rattle.gm_grid.specs.Format.{IsGrid};
 ghost use Rattle.gm_base.specs.ChunkCounts.{chunk_count};
-ghost use Rattle.gm_grid.specs.GridRefusals.{refusal_by_chunks, grid_refusal, unchunked_refusal};
+ghost use Rattle.gm_grid.specs.GridRefusals.{refusal_by_chunks, grid_refusal};
 ghost use Rattle.gm_grid.specs.SmallGrids.{path_file, path_blocks, one_vertex_file, head_of_another_kind, file_without_vertices, head_of_too_many_ranges, file_of_vast_blocks, file_with_second_edge, edge_of_last_block, edge_to_no_vertex};
 
 use crate::GridError;
@@ -19,7 +19,6 @@ pub const PATH_BYTES: [u8; 96] = *b"GGRID001\x04\0\0\0\x02\0\0\0\
 pub fn grid_of_a_path()
     ensures grid { IsGrid path_file 4 2 path_blocks }
     ensures accepted { grid_refusal 1 path_file ≡ None }
-    ensures unchunked { unchunked_refusal path_file ≡ None }
     ensures bytes { PATH_BYTES ≡ path_file }
 {}
 
@@ -36,9 +35,11 @@ pub fn refused_files()
     ensures no_vertices { grid_refusal 1 file_without_vertices ≡ Some (GridError.BadShape 0 2) }
     ensures too_many_ranges { grid_refusal 1 head_of_too_many_ranges ≡ Some (GridError.BadShape 2 3) }
     ensures no_index { grid_refusal 1 (take 40 path_file) ≡ Some (GridError.BadSize 40 48) }
-    ensures vast_blocks { grid_refusal 1 file_of_vast_blocks ≡ Some (GridError.TooManyEdges 18446744073709551616) }
+    ensures vast_blocks { grid_refusal 1 file_of_vast_blocks
+        ≡ Some (GridError.TooManyEdges 18446744073709551616) }
     ensures cut { grid_refusal 1 (take 95 path_file) ≡ Some (GridError.BadSize 95 96) }
-    ensures cut_with_bad_edge { grid_refusal 1 (take 95 (file_with_second_edge edge_to_no_vertex)) ≡ Some (GridError.BadSize 95 96) }
+    ensures cut_with_bad_edge { grid_refusal 1 (take 95 (file_with_second_edge edge_to_no_vertex))
+        ≡ Some (GridError.BadSize 95 96) }
     ensures misplaced { grid_refusal 1 (file_with_second_edge edge_of_last_block) ≡ Some (GridError.BadEdge 1) }
     ensures no_vertex { grid_refusal 1 (file_with_second_edge edge_to_no_vertex) ≡ Some (GridError.BadEdge 1) }
 {}

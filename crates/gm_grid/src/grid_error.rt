@@ -2,13 +2,11 @@
 
 ghost use Rattle.std.specs.Prelude.{◌≡◌};
 ghost use Rattle.gm_grid.specs.declared.grid_error.IndexError.TheVariants as IndexErrors;
-ghost use Rattle.gm_grid.specs.declared.grid_error.ReadError.TheVariants as ReadErrors;
 
 use std::alloc::AllocError;
 use thiserror::Error;
 
-/// Why bytes are no grid. Where several apply it is the first in this order: too short for a head, magic, shape, too short for
-/// the index, too many edges, size, too many chunks, first bad edge.
+/// Why bytes are no grid. Where several apply it is the first in the order of the definition `grid_refusal`.
 #[derive(Clone, Copy, Debug, PartialEq, Eq, Error)]
 pub enum GridError {
     /// The first 8 bytes aren't `GGRID001`.
@@ -42,37 +40,18 @@ pub enum IndexError {
     Memory,
 }
 
+impl From<GridError> for IndexError {
+    ghost from_gives = { λ grid error. error ≡ IndexErrors.Grid grid };
+
+    fn from(error: GridError) -> IndexError {
+        IndexError::Grid(error)
+    }
+}
+
 impl From<AllocError> for IndexError {
     ghost from_gives = { λ _ error. error ≡ IndexErrors.Memory };
 
     fn from(_error: AllocError) -> IndexError {
         IndexError::Memory
-    }
-}
-
-/// Why a grid wasn't read.
-#[derive(Clone, Copy, Debug, PartialEq, Eq, Error)]
-pub enum ReadError {
-    /// The bytes are no grid.
-    #[error(transparent)]
-    Grid(GridError),
-    /// There was no memory for its edges.
-    #[error("out of memory")]
-    Memory,
-}
-
-impl From<GridError> for ReadError {
-    ghost from_gives = { λ grid error. error ≡ ReadErrors.Grid grid };
-
-    fn from(error: GridError) -> ReadError {
-        ReadError::Grid(error)
-    }
-}
-
-impl From<AllocError> for ReadError {
-    ghost from_gives = { λ _ error. error ≡ ReadErrors.Memory };
-
-    fn from(_error: AllocError) -> ReadError {
-        ReadError::Memory
     }
 }

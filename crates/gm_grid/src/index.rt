@@ -6,7 +6,7 @@ ghost use Rattle.gm_base.specs.declared.limits.TheConstants.{MAX_EDGES, MAX_PART
 ghost use Rattle.gm_grid.specs.GridBytes.{counts_of_index, index_size, grid_file_size};
 ghost use Rattle.gm_grid.specs.GridRefusals.{index_refusal};
 
-use crate::{GridError, IndexError};
+use crate::{EDGE_SIZE, ENTRY_SIZE, GridError, HEAD_SIZE, IndexError};
 use byteorder::{ByteOrder, LittleEndian};
 use gm_base::{MAX_EDGES, Shape};
 use std::alloc::{AllocError, Global};
@@ -27,22 +27,24 @@ impl Model for Index {
 
     ghost view = { λ a. a.counts.items };
 
-    ghost invariant = { λ a. (a.edges ≡ sum a.counts.items) × (sum a.counts.items ≤ MAX_EDGES) × (length a.counts.items ≤ MAX_PARTS * MAX_PARTS) };
+    ghost invariant = { λ a. (a.edges ≡ sum a.counts.items)
+        × (sum a.counts.items ≤ MAX_EDGES)
+        × (length a.counts.items ≤ MAX_PARTS * MAX_PARTS) };
 }
 
 /// How many bytes the index behind a head of this shape has.
 pub fn index_size(shape: &Shape) -> usize
     ensures value { result ≡ index_size shape.now }
-    ensures most { result ≤ 8 * (MAX_PARTS * MAX_PARTS) }
+    ensures most { result ≤ ENTRY_SIZE * (MAX_PARTS * MAX_PARTS) }
 {
     let parts = shape.parts() as usize;
-    8 * (parts * parts)
+    ENTRY_SIZE * (parts * parts)
 }
 
 /// How many edges the blocks have in all.
-pub(crate) fn edges_in_all(counts: &[[u8; 8]]) -> u128
+fn edges_in_all(counts: &[[u8; ENTRY_SIZE]]) -> u128
     requires { length counts.now ≤ MAX_PARTS * MAX_PARTS }
-    ensures { result ≡ sum (map (little_number 8) counts.now) }
+    ensures { result ≡ sum (map (little_number ENTRY_SIZE) counts.now) }
 {
     counts
         .iter()
@@ -51,8 +53,8 @@ pub(crate) fn edges_in_all(counts: &[[u8; 8]]) -> u128
 }
 
 /// The numbers of these bytes.
-fn read_counts(alloc: Global, counts: &[[u8; 8]]) -> Result<Vec<u64>, AllocError>
-    ensures { IfOk result (λ read. read.items ≡ map (little_number 8) counts.now) }
+fn read_counts(alloc: Global, counts: &[[u8; ENTRY_SIZE]]) -> Result<Vec<u64>, AllocError>
+    ensures { IfOk result (λ read. read.items ≡ map (little_number ENTRY_SIZE) counts.now) }
 {
     counts
         .iter()
@@ -64,16 +66,18 @@ fn read_counts(alloc: Global, counts: &[[u8; 8]]) -> Result<Vec<u64>, AllocError
 /// `Memory`.
 pub fn read_index(alloc: Global, shape: &Shape, bytes: &[u8]) -> Result<Index, IndexError>
     requires { length bytes.now ≡ index_size shape.now }
-    ensures ok { IfOk result (λ index. (index ≡ counts_of_index bytes.now) × (length index ≡ shape.now.parts * shape.now.parts)) }
+    ensures ok { IfOk result (λ index.
+        (index ≡ counts_of_index bytes.now) × (length index ≡ shape.now.parts * shape.now.parts)) }
     ensures taken { OnOk result (index_refusal (counts_of_index bytes.now) ≡ None) }
-    ensures refused { (e : GridError) → (result ≡ Err (IndexError.Grid e)) ↔ (index_refusal (counts_of_index bytes.now) ≡ Some e) }
+    ensures refused { (e : GridError)
+        → (result ≡ Err (IndexError.Grid e)) ↔ (index_refusal (counts_of_index bytes.now) ≡ Some e) }
 {
     let size = index_size(shape);
     prove!(bytes.len() == size);
-    let (numbers, _) = bytes.as_chunks::<8>();
+    let (numbers, _) = bytes.as_chunks::<ENTRY_SIZE>();
     let edges = edges_in_all(numbers);
     if edges > u128::from(MAX_EDGES) {
-        return Err(IndexError::Grid(GridError::TooManyEdges { edges }));
+        return Err(GridError::TooManyEdges { edges }.into());
     }
     let counts = read_counts(alloc, numbers)?;
     Ok(Index {
@@ -102,6 +106,8 @@ impl Index {
     pub fn expected_size(&self) -> u64
         ensures { result ≡ grid_file_size (length self.now) (sum self.now) }
     {
-        16 + 8 * self.counts.len() as u64 + 12 * self.edges
+        HEAD_SIZE as u64
+            + ENTRY_SIZE as u64 * self.counts.len() as u64
+            + EDGE_SIZE as u64 * self.edges
     }
 }

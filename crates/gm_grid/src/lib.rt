@@ -7,12 +7,12 @@ mod grid_error;
 mod index;
 pub mod laws;
 mod placement;
+mod sizes;
 #[cfg(test)]
 mod tests;
-mod whole_file;
 
 pub use fields::{read_edge, read_head, write_count, write_edge, write_head};
-pub use grid_error::{GridError, IndexError, ReadError};
+pub use grid_error::{GridError, IndexError};
 pub use index::{Index, index_size, read_index};
 pub use placement::{BlockRanges, check_edge};
-pub use whole_file::{Grid, read_grid};
+pub use sizes::{EDGE_SIZE, ENTRY_SIZE, HEAD_SIZE};

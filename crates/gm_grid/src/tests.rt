@@ -1,23 +1,9 @@
 //! Each call that can want memory, once with ample memory, and the texts of refusals.
 
 use crate::examples::PATH_BYTES;
-use crate::{GridError, read_grid, read_index};
-use gm_base::{Edge, Shape};
+use crate::{GridError, read_index};
+use gm_base::Shape;
 use std::test::Fail;
-
-fn edge(from: u32, to: u32, weight: u32) -> Edge {
-    Edge { from, to, weight }
-}
-
-#[test]
-fn reads_a_grid(rt: HostRuntime) -> Result<(), Fail> {
-    let grid = read_grid(rt.alloc(), &PATH_BYTES)?;
-    assert_eq!(rt; grid.shape.n(), 4);
-    assert_eq!(rt; grid.shape.parts(), 2);
-    let edges = [edge(0, 1, 1), edge(1, 2, 1), edge(0, 2, 5), edge(2, 3, 1)];
-    assert_eq!(rt; grid.edges.as_slice(), edges.as_slice());
-    Ok(())
-}
 
 #[test]
 fn reads_an_index(rt: HostRuntime) -> Result<(), Fail> {
