@@ -121,21 +121,25 @@ pub(crate) fn check_run<R: AllocGlobal + Abort>(
     Ok(())
 }
 
-/// The same where this read fails, over the path in chunks of one edge: some job failed, and the report is this.
-pub(crate) fn check_failing_read<R: AllocGlobal + Abort>(
+/// Runs the job text over the path in chunks of one edge, where these reads fail: some job failed, and the report is this.
+pub(crate) fn check_failing_reads<R: AllocGlobal + Abort>(
     rt: &R,
-    failing: u64,
+    failing: &[u64],
     jobs: &[u8],
     report: &[u8],
     reads: u64,
 ) -> Result<(), Fail> {
-    let mut depot = depot_of(rt, PATH, vec![in rt.alloc(); (Call::Read, failing)]?)?;
+    let mut fails = Vec::new(rt.alloc());
+    for &number in failing {
+        fails.push((Call::Read, number))?;
+    }
+    let mut depot = depot_of(rt, PATH, fails)?;
     depot.put("j.txt", jobs)?;
     let end = call_over(rt, RUN, depot)?;
-    let case = format!(in rt.alloc(); "read {failing} {jobs:?}")?;
+    let case = format!(in rt.alloc(); "reads {failing:?} {jobs:?}")?;
     check_end(rt, &end, (1, report, b""), &case);
     assert_eq!(rt; end.depot.reads(), reads, "{case}");
-    assert_eq!(rt; end.depot.faults(), 1, "{case}");
+    assert_eq!(rt; end.depot.faults(), failing.len() as u64, "{case}");
     Ok(())
 }
 
@@ -144,18 +148,23 @@ pub(crate) const RUN: &str = "run a.grid j.txt 1 1";
 /// The same with chunks of any number of edges.
 pub(crate) const RUN_LARGE: &str = "run a.grid j.txt 1 65536";
 
-/// As many of the calls as stand here were made, and no other one.
+/// A call of a depot: its kind, the file's name, where a read begins, and how many bytes are read or appended.
+pub(crate) type NotedAs = (Call, &'static str, u64, usize);
+
+/// These calls were made one after the other, and no other one.
 pub(crate) fn check_calls<R: AllocGlobal + Abort>(
     rt: &R,
     depot: &NotingDepot<MemDepot>,
-    calls: &[(Call, &str)],
+    calls: &[NotedAs],
     case: &str,
 ) -> Result<(), Fail> {
     let noted = depot.calls().ok_or("a note was lost")?;
     assert_eq!(rt; noted.len(), calls.len(), "{case}");
-    for (noted, &(kind, name)) in noted.iter().zip(calls) {
+    for (noted, &(kind, name, position, length)) in noted.iter().zip(calls) {
         assert_eq!(rt; noted.kind, kind, "{case}");
         assert_eq!(rt; noted.name.as_str(), name, "{case}");
+        assert_eq!(rt; noted.position, position, "{case}");
+        assert_eq!(rt; noted.length, length, "{case}");
     }
     Ok(())
 }

@@ -1,5 +1,6 @@
 //! Chunks that are others when they are read again.
 use crate::calls::{AT_ONE, PATH, REPORT, RUN, call_over, check_end, depot_of};
+use crate::jobs::ADDED_BETWEEN;
 use gm_fakes::DriftDepot;
 use std::test::Fail;
 
@@ -19,7 +20,7 @@ const CHANGED_2: &[u8] = b"job a version 0 failed changed 1 2\n";
 const CHANGED_4: &[u8] = b"job a version 0 failed changed 3 4\n";
 
 /// The read that finds other bytes, these bytes with zeros behind them, a job, how many reads are made then, the status, and the report.
-const DRIFTS: [(u64, &[u8], &[u8], u64, u8, &[u8]); 8] = [
+const DRIFTS: [(u64, &[u8], &[u8], u64, u8, &[u8]); 10] = [
     (8, AT_ONE, b"job a bfs 0", 8, 1, CHANGED_0),
     (9, AT_THREE, b"job a bfs 0", 9, 1, CHANGED_2),
     (10, b"", b"job a bfs 0", 10, 1, CHANGED_1),
@@ -45,6 +46,24 @@ const DRIFTS: [(u64, &[u8], &[u8], u64, u8, &[u8]); 8] = [
     ),
     // what the opening found is compared
     (3, AT_ONE, b"job a bfs 1", 8, 1, CHANGED_0),
+    // the update and the job behind a job that failed
+    (
+        8,
+        AT_ONE,
+        ADDED_BETWEEN,
+        12,
+        1,
+        b"job a version 0 failed changed 0 0\njob b version 1 done rounds 2\n0 0\n1 1\n2 1\n3 1\n",
+    ),
+    // what was read is compared, whatever the job changes of it
+    (
+        8,
+        AT_ONE,
+        b"job a bfs 0\nmutate del 0 1\njob b bfs 0\n",
+        12,
+        1,
+        b"job a version 0 failed changed 0 0\njob b version 0 done rounds 3\n0 0\n1 1\n2 1\n3 2\n",
+    ),
 ];
 
 #[test]

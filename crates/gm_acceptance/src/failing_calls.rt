@@ -1,40 +1,43 @@
 //! Each call on the depot, and a write to each sink, failing in turn.
-use crate::calls::{Ending, PATH, REPORT, RUN, call, call_over, check_calls, check_end, depot_of};
+use crate::calls::{
+    Ending, NotedAs, PATH, REPORT, RUN, call, call_over, check_calls, check_end,
+    check_failing_reads, depot_of,
+};
 use gm_fakes::{Call, MemSink, NotingDepot};
 use std::process::Abort;
 use std::test::Fail;
 
 /// The opening, the job text, and in two rounds the chunks 0 and 2, and then 1 and 4.
-const RUN_CALLS: [(Call, &str); 13] = [
-    (Call::Size, "a.grid"),
-    (Call::Read, "a.grid"),
-    (Call::Read, "a.grid"),
-    (Call::Read, "a.grid"),
-    (Call::Read, "a.grid"),
-    (Call::Read, "a.grid"),
-    (Call::Read, "a.grid"),
-    (Call::Size, "j.txt"),
-    (Call::Read, "j.txt"),
-    (Call::Read, "a.grid"),
-    (Call::Read, "a.grid"),
-    (Call::Read, "a.grid"),
-    (Call::Read, "a.grid"),
+const RUN_CALLS: [NotedAs; 13] = [
+    (Call::Size, "a.grid", 0, 0),
+    (Call::Read, "a.grid", 0, 16),
+    (Call::Read, "a.grid", 16, 32),
+    (Call::Read, "a.grid", 48, 12),
+    (Call::Read, "a.grid", 60, 12),
+    (Call::Read, "a.grid", 72, 12),
+    (Call::Read, "a.grid", 84, 12),
+    (Call::Size, "j.txt", 0, 0),
+    (Call::Read, "j.txt", 0, 12),
+    (Call::Read, "a.grid", 48, 12),
+    (Call::Read, "a.grid", 72, 12),
+    (Call::Read, "a.grid", 60, 12),
+    (Call::Read, "a.grid", 84, 12),
 ];
 
 const BUILD: &str = "build e.txt b.grid 4 2";
 
-const BUILD_CALLS: [(Call, &str); 4] = [
-    (Call::Size, "e.txt"),
-    (Call::Read, "e.txt"),
-    (Call::Create, "b.grid"),
-    (Call::Append, "b.grid"),
+const BUILD_CALLS: [NotedAs; 4] = [
+    (Call::Size, "e.txt", 0, 0),
+    (Call::Read, "e.txt", 0, 4),
+    (Call::Create, "b.grid", 0, 0),
+    (Call::Append, "b.grid", 0, 60),
 ];
 
 /// Does what the words say where the call of this kind and number fails. As many of the calls as stand here are made, and no other one.
 fn check_failing<R: AllocGlobal + Abort>(
     rt: &R,
     words: &str,
-    calls: &[(Call, &str)],
+    calls: &[NotedAs],
     fails: (Call, u64),
     ending: Ending,
 ) -> Result<(), Fail> {
@@ -110,13 +113,8 @@ const FETCHES: [(u32, u32); 11] = [
 #[test]
 fn the_least_owed_chunk_is_fetched(rt: HostRuntime) -> Result<(), Fail> {
     for (read, (block, chunk)) in (8..19_u64).zip(FETCHES) {
-        let mut depot = depot_of(&rt, PATH, vec![in rt.alloc(); (Call::Read, read)]?)?;
-        depot.put("j.txt", b"job a wcc")?;
-        let end = call_over(&rt, RUN, depot)?;
         let line = format!(in rt.alloc(); "job a version 0 failed read {block} {chunk}\n")?;
-        check_end(&rt, &end, (1, line.as_bytes(), b""), &line);
-        assert_eq!(rt; end.depot.reads(), read, "{line}");
-        assert_eq!(rt; end.depot.faults(), 1, "{line}");
+        check_failing_reads(&rt, &[read], b"job a wcc", line.as_bytes(), read)?;
     }
     Ok(())
 }

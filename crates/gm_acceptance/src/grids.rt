@@ -1,5 +1,9 @@
 //! Files that are no grid, or nearly none, each in a run.
-use crate::calls::{PATH, REPORT, RUN, check_end, padded, run_over};
+use crate::calls::{
+    PATH, REPORT, RUN, call_over, check_calls, check_end, depot_of, padded, run_over,
+};
+use gm_fakes::{Call, NotingDepot};
+use std::process::Abort;
 use std::test::Fail;
 
 /// The report over the grid with this byte changed in its lowest bit, where it is a grid still: worked out apart from the program.
@@ -90,66 +94,117 @@ fn each_cut_of_the_grid_is_refused(rt: HostRuntime) -> Result<(), Fail> {
     Ok(())
 }
 
-/// The front of a file that has zeros behind it, its length, how many reads are made, and what is wrong with the file.
-const REFUSED_GRIDS: [(&[u8], usize, u64, &str); 9] = [
+/// Where each read of a file begins, and how many bytes it has.
+type Reads = &'static [(u64, usize)];
+
+const HEAD: Reads = &[(0, 16)];
+
+/// With one range, and with two.
+const INDEX_OF_ONE: Reads = &[(0, 16), (16, 8)];
+
+const INDEX_OF_TWO: Reads = &[(0, 16), (16, 32)];
+
+/// The front of a file that has zeros behind it, its length, which reads are made, and what is wrong with the file.
+const REFUSED_GRIDS: [(&[u8], usize, Reads, &str); 14] = [
+    (b"GGRID001\x04\0\0\0", 12, &[], "size 12, expected 16"),
+    (
+        b"GGRID001\x04\0\0\0\x02\0\0\0",
+        40,
+        HEAD,
+        "size 40, expected 48",
+    ),
+    (b"GGRID002\x04\0\0\0\x02\0\0\0", 96, HEAD, "bad magic"),
     (
         b"GGRID001\0\0\0\0\x02\0\0\0",
         96,
-        1,
+        HEAD,
         "bad shape n 0 parts 2",
     ),
     (
         b"GGRID001\x01\0\x10\0\x01\0\0\0",
         24,
-        1,
+        HEAD,
         "bad shape n 1048577 parts 1",
     ),
     (
         b"GGRID001\x64\0\0\0\x41\0\0\0",
         33_816,
-        1,
+        HEAD,
         "bad shape n 100 parts 65",
     ),
     (
         b"GGRID001\x01\0\0\0\x02\0\0\0",
         48,
-        1,
+        HEAD,
         "bad shape n 1 parts 2",
     ),
     (
         b"GGRID001\x04\0\0\0\x02\0\0\0\0\0\0\0\0\0\0\x80\0\0\0\0\0\0\0\x80\0\0\0\0\0\0\0\0\x01",
         96,
-        2,
+        INDEX_OF_TWO,
         "too many edges 18446744073709551617",
     ),
     (
         b"GGRID001\x01\0\0\0\x01\0\0\0\x01\0\0\x01",
         24,
-        2,
+        INDEX_OF_ONE,
         "too many edges 16777217",
     ),
     (
         b"GGRID001\x01\0\0\0\x01\0\0\0\0\0\0\x01",
         24,
-        2,
+        INDEX_OF_ONE,
         "size 24, expected 201326616",
     ),
-    (PATH, 97, 2, "size 97, expected 96"),
+    (PATH, 97, INDEX_OF_TWO, "size 97, expected 96"),
     (
         b"GGRID001\x01\0\0\0\x01\0\0\0\x01\0\x10",
         12_582_948,
-        2,
+        INDEX_OF_ONE,
         "too many chunks 1048577",
+    ),
+    // the first edge is from 2 to 0, which is of another block
+    (
+        b"GGRID001\x04\0\0\0\x02\0\0\0\x01\0\0\0\0\0\0\0\x02\0\0\0\0\0\0\0\0\0\0\0\0\0\0\0\x01\0\0\0\0\0\0\0\x02",
+        96,
+        &[(0, 16), (16, 32), (48, 12)],
+        "bad edge 0",
+    ),
+    // the third one, from 0 to 0, is of another block
+    (
+        b"GGRID001\x04\0\0\0\x02\0\0\0\x01\0\0\0\0\0\0\0\x02\0\0\0\0\0\0\0\0\0\0\0\0\0\0\0\x01\0\0\0\0\0\0\0\0\0\0\0\x01\0\0\0\x01\0\0\0\x01\0\0\0\x02\0\0\0\x01",
+        96,
+        &[(0, 16), (16, 32), (48, 12), (60, 12), (72, 12)],
+        "bad edge 2",
     ),
 ];
 
+/// Runs a job over such a file, where the second call of `size` would fail, and the read behind those that are made.
+fn check_refused<R: AllocGlobal + Abort>(
+    rt: &R,
+    grid: &[u8],
+    reads: Reads,
+    refusal: &str,
+) -> Result<(), Fail> {
+    let next = (reads.len() as u64).saturating_add(1);
+    let fails = vec![in rt.alloc(); (Call::Size, 2), (Call::Read, next)]?;
+    let depot = NotingDepot::new(rt.alloc(), depot_of(rt, grid, fails)?);
+    let end = call_over(rt, RUN, depot)?;
+    let line = format!(in rt.alloc(); "graphm: a.grid: {refusal}\n")?;
+    check_end(rt, &end, (4, b"", line.as_bytes()), refusal);
+    let mut calls = vec![in rt.alloc(); (Call::Size, "a.grid", 0, 0)]?;
+    for &(position, length) in reads {
+        calls.push((Call::Read, "a.grid", position, length))?;
+    }
+    check_calls(rt, &end.depot, &calls, refusal)?;
+    assert_eq!(rt; end.depot.depot().faults(), 0, "{refusal}");
+    Ok(())
+}
+
 #[test]
-fn grids_past_the_limits_are_refused(rt: HostRuntime) -> Result<(), Fail> {
+fn a_refused_grid_is_read_no_further(rt: HostRuntime) -> Result<(), Fail> {
     for (front, length, reads, refusal) in REFUSED_GRIDS {
-        let end = run_over(&rt, RUN, &padded(&rt, front, length, 0)?)?;
-        let line = format!(in rt.alloc(); "graphm: a.grid: {refusal}\n")?;
-        check_end(&rt, &end, (4, b"", line.as_bytes()), refusal);
-        assert_eq!(rt; end.depot.reads(), reads, "{refusal}");
+        check_refused(&rt, &padded(&rt, front, length, 0)?, reads, refusal)?;
     }
     Ok(())
 }

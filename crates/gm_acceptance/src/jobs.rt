@@ -1,8 +1,8 @@
 //! Job texts of several jobs, and job texts that are refused, each in a run over the path's grid.
-use crate::calls::{PATH, REPORT, RUN, check_failing_read, check_run, run_job};
+use crate::calls::{PATH, REPORT, RUN, check_run, run_job};
 use std::test::Fail;
 
-const TWO_JOBS: &[u8] = b"job a bfs 0\njob b bfs 1\n";
+pub(crate) const TWO_JOBS: &[u8] = b"job a bfs 0\njob b bfs 1\n";
 
 const TWO_REPORTS: &[u8] =
     b"job a version 0 done rounds 3\n0 0\n1 1\n2 1\n3 2\njob b version 0 done rounds 3\n0 -\n1 0\n2 1\n3 2\n";
@@ -12,7 +12,7 @@ const STOPPED: &[u8] = b"job a bfs 0 rounds 1\njob b bfs 1 rounds 3";
 const STOPPED_REPORTS: &[u8] =
     b"job a version 0 failed rounds 1\njob b version 0 done rounds 3\n0 -\n1 0\n2 1\n3 2\n";
 
-const ADDED_BETWEEN: &[u8] = b"job a bfs 0\nupdate\nadd 0 3 1\njob b bfs 0\n";
+pub(crate) const ADDED_BETWEEN: &[u8] = b"job a bfs 0\nupdate\nadd 0 3 1\njob b bfs 0\n";
 
 const ADDED_REPORTS: &[u8] =
     b"job a version 0 done rounds 3\n0 0\n1 1\n2 1\n3 2\njob b version 1 done rounds 2\n0 0\n1 1\n2 1\n3 1\n";
@@ -110,32 +110,5 @@ fn the_65th_job_is_refused(rt: HostRuntime) -> Result<(), Fail> {
             .ends_with(b"job a63 version 0 done rounds 1\n0 -\n1 -\n2 -\n3 0\n"),
         "the last of 64 jobs"
     );
-    Ok(())
-}
-
-/// The read that fails, what the report says, and how many reads are made.
-const FAILING_FETCHES: [(u64, &[u8], u64); 3] = [
-    (
-        8,
-        b"job a version 0 failed read 0 0\njob b version 0 done rounds 3\n0 -\n1 0\n2 1\n3 2\n",
-        10,
-    ),
-    (
-        11,
-        b"job a version 0 failed read 3 4\njob b version 0 done rounds 3\n0 -\n1 0\n2 1\n3 2\n",
-        13,
-    ),
-    (
-        13,
-        b"job a version 0 done rounds 3\n0 0\n1 1\n2 1\n3 2\njob b version 0 failed read 3 4\n",
-        13,
-    ),
-];
-
-#[test]
-fn a_failed_job_ends_itself_alone(rt: HostRuntime) -> Result<(), Fail> {
-    for (read, report, reads) in FAILING_FETCHES {
-        check_failing_read(&rt, read, TWO_JOBS, report, reads)?;
-    }
     Ok(())
 }

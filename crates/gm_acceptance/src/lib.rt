@@ -10,11 +10,15 @@ mod drifts;
 #[cfg(test)]
 mod failing_calls;
 #[cfg(test)]
+mod failing_reads;
+#[cfg(test)]
 mod grids;
 #[cfg(test)]
 mod jobs;
 #[cfg(test)]
 mod kinds;
+#[cfg(test)]
+mod limits;
 #[cfg(test)]
 mod mutations;
 #[cfg(test)]

@@ -1,16 +1,12 @@
 //! Jobs with changes of their own, alone and beside others.
-use crate::calls::{
-    AT_ONE, PATH, RUN, RUN_LARGE, call_over, check_end, check_failing_read, check_run, depot_of,
-    run_job,
-};
-use gm_fakes::DriftDepot;
+use crate::calls::{PATH, RUN, RUN_LARGE, check_end, check_run, run_job};
 use std::test::Fail;
 
 /// Two vertices, and two equal edges from 0 to 1.
 const TWICE: &[u8] =
     b"GGRID001\x02\0\0\0\x01\0\0\0\x02\0\0\0\0\0\0\0\0\0\0\0\x01\0\0\0\x01\0\0\0\0\0\0\0\x01\0\0\0\x01\0\0\0";
 
-const CUT_BY_THE_SECOND: &[u8] = b"job a bfs 0\njob b bfs 0\nmutate del 0 1";
+pub(crate) const CUT_BY_THE_SECOND: &[u8] = b"job a bfs 0\njob b bfs 0\nmutate del 0 1";
 
 const CUT_REPORTS: &[u8] =
     b"job a version 0 done rounds 3\n0 0\n1 1\n2 1\n3 2\njob b version 0 done rounds 3\n0 0\n1 -\n2 1\n3 2\n";
@@ -126,43 +122,5 @@ fn each_of_64_jobs_has_its_own_changes(rt: HostRuntime) -> Result<(), Fail> {
     }
     let end = run_job(&rt, RUN, PATH, text.as_bytes())?;
     check_end(&rt, &end, (0, report.as_bytes(), b""), "64 jobs");
-    Ok(())
-}
-
-/// The read that fails, what the report says, and how many reads are made.
-const FAILING_FETCHES: [(u64, &[u8], u64); 2] = [
-    (
-        8,
-        b"job a version 0 failed read 0 0\njob b version 0 done rounds 3\n0 0\n1 -\n2 1\n3 2\n",
-        11,
-    ),
-    (
-        12,
-        b"job a version 0 done rounds 3\n0 0\n1 1\n2 1\n3 2\njob b version 0 failed read 0 0\n",
-        12,
-    ),
-];
-
-#[test]
-fn a_chunk_that_is_changed_is_read(rt: HostRuntime) -> Result<(), Fail> {
-    for (read, report, reads) in FAILING_FETCHES {
-        check_failing_read(&rt, read, CUT_BY_THE_SECOND, report, reads)?;
-    }
-    Ok(())
-}
-
-/// What was read is compared with the grid's label, whatever the job changes of it.
-#[test]
-fn a_chunk_that_is_changed_is_compared(rt: HostRuntime) -> Result<(), Fail> {
-    let mut depot = depot_of(&rt, PATH, Vec::new(rt.alloc()))?;
-    depot.put("j.txt", b"job a bfs 0\nmutate del 0 1\njob b bfs 0\n")?;
-    let end = call_over(
-        &rt,
-        RUN,
-        DriftDepot::new(depot, 8, AT_ONE.to_vec(rt.alloc())?),
-    )?;
-    let report =
-        b"job a version 0 failed changed 0 0\njob b version 0 done rounds 3\n0 0\n1 1\n2 1\n3 2\n";
-    check_end(&rt, &end, (1, report, b""), "drift");
     Ok(())
 }

@@ -36,7 +36,7 @@ fn tree(rt: &HostRuntime) -> Result<Vec<u8>, Fail> {
 }
 
 /// Adds a vertex's line to a report.
-fn push_value(
+pub(crate) fn push_value(
     rt: &HostRuntime,
     report: &mut String,
     vertex: u32,

@@ -235,3 +235,11 @@ is_held key (held ∷ rest) now (Some i) is view kept =
     let least = ltb-false 0 (length (riders_under key all)) e in
     let none = ridden key all kept (nil_from_length (riders_under key all) (omega arith)) in
     let here = held_at key all i held (first_at key all i (sym is)) in cc) refl)
+
+-- the copy that is taken out has no rider left
+pub none_left : (key : Key) (all : List Held) (i : ℕ) (new : Held) (edges : Option (List Edge)) → position (is_under key) all ≡ Some i → IsKept all
+    → IfSome edges (λ _. riders_under key (remove (set all i new) i) ≡ [])
+none_left key all i new None place kept = tt
+none_left key all i new (Some edges) place kept =
+    let gone = under-remove key key all i (first_at key all i place) kept ∙ ap (λ (t : Bool). cond t None (held_under key all)) (same_key-refl key) in
+    ap (riders_under key) (remove_set all i new) ∙ ap riders_of gone

@@ -64,10 +64,8 @@ impl Buffer {
         requires { 0 < length (riders_under key self.now) }
         ensures { IfOk result (λ share. copy_under key self.now ≡ Some (arc_value share)) }
     {
-        match place_of(&self.slots, key) {
-            Some(place) => self.slots[place].share(),
-            None => Err(Memory),
-        }
+        let place = place_of(&self.slots, key).unwrap();
+        self.slots[place].share()
     }
 
     /// Takes a job off the riders of the copy of this key, and the copy out with its last rider.
@@ -77,12 +75,13 @@ impl Buffer {
         let _room = self.reclaim(key, job);
     }
 
-    /// Does the same, and hands the copy's edges out where it went and no share of it is out, so that the next load can use
-    /// their room.
+    /// Does the same, and hands the copy's edges out where it went with its last rider and no share of it is out, so that the
+    /// next load can use their room. While a share is out, or another job still has to pass the copy, it hands out none.
     pub fn reclaim(&mut self, key: Key, job: u32) -> Option<Edges>
         ensures passes { Passes key job self.old self.new }
         ensures room { IfSome result (λ edges.
             copy_under key self.old ≡ Some (record { key = key; edges = edges })) }
+        ensures last { IfSome result (λ edges. riders_under key self.new ≡ []) }
     {
         let place = place_of(&self.slots, key)?;
         if self.slots[place].leave(job) {

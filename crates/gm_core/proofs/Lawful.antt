@@ -13,18 +13,19 @@ use Rattle.gm_base.specs.declared.edge.Edge.{Edge}
 use Rattle.gm_label.specs.Catalogues.{Catalogue}
 use Rattle.gm_jobs.specs.declared.script.Line.{Line}
 use Rattle.gm_jobs.specs.StatedJobs.{jobs_of}
+use Rattle.gm_kernel.specs.Standings.{Standing, Turning}
 use Rattle.gm_active.specs.Bits.{is_in}
 use Rattle.gm_active.specs.BitsRules.{is_in_past}
 use Rattle.gm_active.specs.NeedsRules.{length-needed_chunks, length-counted_chunks}
-use Rattle.gm_work.specs.declared.phase.Phase.{Phase}
-use Rattle.gm_work.specs.declared.phase.Phase.TheVariants.{Counting, Round}
-use Rattle.gm_work.specs.JobStates.{Turning, owes_any}
-use Rattle.gm_work.specs.JobStates.Turning.{Goes, Ends}
-use Rattle.gm_work.specs.Views.{JobView, StandingTurn, needed_in, IsTurnedWell}
-use Rattle.gm_work.specs.Views.StandingTurn.{StandsAt, EndsWith}
+use Rattle.gm_kernel.specs.declared.phase.Phase.{Phase}
+use Rattle.gm_kernel.specs.declared.phase.Phase.TheVariants.{Counting, Round}
+use Rattle.gm_work.specs.JobStates.{JobState, owes_any}
+use Rattle.gm_kernel.specs.Standings.Turning.{Goes, Ends}
+use Rattle.gm_work.specs.Views.{JobView, needed_in, IsTurnedWell, LeadsOn}
 use Rattle.gm_work.specs.Weights.{IsLeftBy}
 use Rattle.gm_core.specs.SnapshotViews.{job_view}
-use Rattle.gm_core.specs.JobWorks.{IsJobMidRound, IsTurnedAs, HasLeft, works_of}
+use Rattle.gm_machine.specs.JobWorks.{IsTurnedAs, HasLeft, TurnsOn}
+use Rattle.gm_core.specs.ScriptWorks.{IsJobMidRound, works_of}
 
 -- a mark stands for a number below the marks' length
 marked_within : (marks : List Bool) (c : ℕ) → is_in marks c ≡ true → c < length marks
@@ -56,21 +57,27 @@ some_marked (true ∷ marks) some = (zero, refl)
 some_marked (false ∷ marks) some = let later = some_marked marks some in (suc later.0, later.1)
 
 -- a turn of a job over its view is a turn of the job by its number
-pub turned_as : (cat : Catalogue) (edges : List Edge) (entries : List Line) (n : ℕ) (stands : StandingTurn) (turning : Turning) → n < length (jobs_of entries)
+pub turned_as : (cat : Catalogue) (edges : List Edge) (entries : List Line) (n : ℕ) (stands : Turning Standing) (turning : Turning JobState) → n < length (jobs_of entries)
     → IsTurnedWell (job_view cat edges entries n) stands turning → IsTurnedAs (works_of cat edges entries) (IsJobMidRound cat edges entries) n stands turning
 unfolding works_of
-turned_as cat edges entries n (StandsAt s) (Goes e) within well =
+turned_as cat edges entries n (Goes s) (Goes e) within well =
     let some = some_marked e.owed well.1 in
     (record { number = within; mid = well.0 }, record { chunk = some.0; owed = some.1 })
-turned_as cat edges entries n (StandsAt s) (Ends outcome) within well = absurd well
-turned_as cat edges entries n (EndsWith outcome) (Goes e) within well = absurd well
-turned_as cat edges entries n (EndsWith outcome) (Ends other) within well = (well.1, well.0 ∙ well.1)
+turned_as cat edges entries n (Goes s) (Ends outcome) within well = absurd well
+turned_as cat edges entries n (Ends outcome) (Goes e) within well = absurd well
+turned_as cat edges entries n (Ends outcome) (Ends other) within well = (well.1, well.0 ∙ well.1)
 
-pub left_by_turn : (cat : Catalogue) (edges : List Edge) (entries : List Line) (n passes : ℕ) (stands : StandingTurn)
+pub turned_on : (cat : Catalogue) (edges : List Edge) (entries : List Line) (n : ℕ) (s : Standing) (stands : Turning Standing)
+    → LeadsOn (job_view cat edges entries n) s stands → TurnsOn (works_of cat edges entries) n s stands
+unfolding works_of
+turned_on cat edges entries n s (Goes t) leads = leads
+turned_on cat edges entries n s (Ends outcome) leads = tt
+
+pub left_by_turn : (cat : Catalogue) (edges : List Edge) (entries : List Line) (n passes : ℕ) (stands : Turning Standing)
     → IsLeftBy (job_view cat edges entries n) (λ c. 1) passes stands → HasLeft (works_of cat edges entries) n passes stands
 unfolding works_of
-left_by_turn cat edges entries n passes (StandsAt s) left = left
-left_by_turn cat edges entries n passes (EndsWith outcome) left = left
+left_by_turn cat edges entries n passes (Goes s) left = left
+left_by_turn cat edges entries n passes (Ends outcome) left = left
 
 -- a chunk's key is of the chunk
 pub key_at-chunk : (overlays : List Overlay) (c : ℕ) → (key_at overlays c).chunk ≡ c

@@ -1,2 +1,3 @@
 pub mod SnapshotGraphs
 pub mod Lawful
+pub mod ScriptLaws

@@ -1,3 +1,4 @@
 pub mod SnapshotViews
-pub mod JobWorks
+pub mod ScriptWorks
+pub mod ScriptCases
 pub mod Examples

@@ -1,5 +1,5 @@
 //! The work of two jobs of a script over a small grid, with an update between them. Worked out by hand.
-#![tactic(auto, unfolding(crate::specs::JobWorks::works_of, gm_kernel::specs::Runs::round_of, gm_kernel::specs::Runs::values_after, gm_kernel::specs::Runs::is_settled_by, gm_kernel::specs::Runs::settled_run))]
+#![tactic(auto, unfolding(crate::specs::ScriptWorks::works_of, gm_kernel::specs::Runs::round_of, gm_kernel::specs::Runs::values_after, gm_kernel::specs::Runs::is_settled_by, gm_kernel::specs::Runs::settled_run))]
 
 ghost use Rattle.std.specs.Prelude.{◌≡◌, [], ◌∷◌};
 ghost use Rattle.gm_core.specs.Examples.{works_on_path};

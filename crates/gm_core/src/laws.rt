@@ -12,10 +12,13 @@ ghost use Rattle.gm_jobs.specs.StatedJobs.{jobs_of};
 ghost use Rattle.gm_scripts.specs.ScriptJobs.{IsScriptOverGrid};
 ghost use Rattle.gm_work.specs.Views.{IsCutIntoChunks};
 ghost use Rattle.gm_core.specs.SnapshotViews.{snapshot_view, job_view};
-ghost use Rattle.gm_core.specs.JobWorks.{IsJobMidRound, Laws, works_of};
+ghost use Rattle.gm_core.specs.ScriptWorks.{IsJobMidRound, works_of};
+ghost use Rattle.gm_machine.specs.JobWorks.{Laws};
 
 use gm_jobs::Line;
-use gm_work::laws::{begins, determined, owed_chunks, passes, turns, weight_is_left};
+use gm_work::laws::{
+    begins, determined, owed_chunks, passes, turns, turns_lead_on, weight_is_left,
+};
 
 /// A law: what a job sees of a grid's chunks is its view of the graph, cut into them. So it is for each job of a script.
 pub fn views_are_cut()
@@ -36,6 +39,7 @@ pub fn works_are_lawful()
     begins();
     passes();
     turns();
+    turns_lead_on();
     determined();
     owed_chunks();
     weight_is_left();

@@ -7,6 +7,7 @@ use Rattle.gm_base.specs.Graph.{IsSameGraph, is_same_edge}
 use Rattle.gm_grid.specs.GridBytes.{edges_in}
 use Rattle.gm_label.specs.Catalogues.{Catalogue}
 use Rattle.gm_label.specs.Overlays.{key_at}
+use Rattle.gm_kernel.specs.Standings.{Standing, with_passed, Turning}
 use Rattle.gm_work.specs.HeldJobs.{HeldJob, context_in}
 use Rattle.gm_job_run.specs.declared.job_run.Stop.{Stop}
 use Rattle.gm_job_run.specs.declared.job_run.Stop.TheVariants.{Read, Changed, Memory}
@@ -14,10 +15,9 @@ use Rattle.gm_kernel.specs.Runs.{most_rounds}
 use Rattle.gm_outside.specs.Causes.{counted_times}
 use Rattle.gm_outside.specs.CausesRules.{counted_times-add, counted_times-few}
 use Rattle.gm_active.specs.Bits.{is_in}
-use Rattle.gm_work.specs.JobStates.{JobState, Turning, first_state, state_after_pass, turning_of}
-use Rattle.gm_work.specs.JobStates.Turning.{Goes, Ends}
-use Rattle.gm_work.specs.Views.{JobView, IsCutIntoChunks, Standing, StandingTurn, IsMidRound, needed_in, owed_at, first_standing, with_passed, turn_at, IsTurnedWell}
-use Rattle.gm_work.specs.Views.StandingTurn.{StandsAt, EndsWith}
+use Rattle.gm_work.specs.JobStates.{JobState, first_state, state_after_pass, turning_of}
+use Rattle.gm_kernel.specs.Standings.Turning.{Goes, Ends}
+use Rattle.gm_work.specs.Views.{JobView, IsCutIntoChunks, IsMidRound, needed_in, owed_at, first_standing, turn_at, IsTurnedWell}
 use Rattle.gm_work.specs.Weights.{run_weight, weight_left, IsLeftBy}
 use Rattle.gm_versions.specs.Snapshots.{Snapshot, content_of}
 use Rattle.gm_job_run.specs.JobRuns.{IsNeeded, IsUnderWay, IsEnd, StopsBy, OfChunk, IsToldStop, pass_reads, view_over}
@@ -94,18 +94,18 @@ under_way-few d reads_of first e c reads reads' owed_is weighs owes way few =
     omega (arith, less, total, made, is, few)
 
 -- what a turn makes of a job that was under way
-abbrev pub AfterTurning : JobView → (ℕ → ℕ) → ℕ → ℕ → Turning → Type 0
+abbrev pub AfterTurning : JobView → (ℕ → ℕ) → ℕ → ℕ → Turning JobState → Type 0
 AfterTurning d reads_of first reads (Goes e) = IsUnderWay d reads_of first e reads
 AfterTurning d reads_of first reads (Ends outcome) = IsEnd d reads_of first outcome reads
 
-after_turning : (d : JobView) (reads_of : ℕ → ℕ) (first reads made left : ℕ) (stands : StandingTurn) (turning : Turning)
+after_turning : (d : JobView) (reads_of : ℕ → ℕ) (first reads made left : ℕ) (stands : Turning Standing) (turning : Turning JobState)
     → IsTurnedWell d stands turning → IsLeftBy d reads_of left stands → run_weight d reads_of ≡ made + left → reads ≡ counted_times made first
     → AfterTurning d reads_of first reads turning
-after_turning d reads_of first reads made left (StandsAt s) (Goes e) well left_is total read =
+after_turning d reads_of first reads made left (Goes s) (Goes e) well left_is total read =
     record { st = s; mid = well.0; made = made; total = omega (arith, total, left_is); counted = read }
-after_turning d reads_of first reads made left (StandsAt s) (Ends outcome) well left_is total read = absurd well
-after_turning d reads_of first reads made left (EndsWith outcome) (Goes e) well left_is total read = absurd well
-after_turning d reads_of first reads made left (EndsWith alone) (Ends outcome) well left_is total read =
+after_turning d reads_of first reads made left (Goes s) (Ends outcome) well left_is total read = absurd well
+after_turning d reads_of first reads made left (Ends outcome) (Goes e) well left_is total read = absurd well
+after_turning d reads_of first reads made left (Ends alone) (Ends outcome) well left_is total read =
     let all : run_weight d reads_of ≡ made = omega (arith, total, left_is) in
     (well.0 ∙ well.1, read ∙ ap (λ m. counted_times m first) (sym all))
 

@@ -16,8 +16,9 @@ use Rattle.gm_label.specs.declared.chunk.Overlay.{Overlay}
 use Rattle.gm_label.specs.Catalogues.{Catalogue, IsOver}
 use Rattle.gm_source.specs.Openings.{IsCatalogueOf}
 use Rattle.gm_source.specs.Fetches.{TellsGrid}
-use Rattle.gm_work.specs.JobStates.{JobContext, JobState, owes_any, phases_left, turning_of, Turning}
-use Rattle.gm_work.specs.JobStates.Turning.{Goes, Ends}
+use Rattle.gm_kernel.specs.Standings.{Turning}
+use Rattle.gm_work.specs.JobStates.{JobContext, JobState, owes_any, phases_left, turning_of}
+use Rattle.gm_kernel.specs.Standings.Turning.{Goes, Ends}
 use Rattle.gm_work.specs.Views.{IsCutIntoChunks}
 use Rattle.gm_work.specs.HeldJobs.{HeldJob, context_in, context_of, IsSameJob, IsTurned}
 use Rattle.gm_versions.specs.Snapshots.{Snapshot, IsSnapshotOver, overlays_of}
@@ -72,7 +73,7 @@ after_turn : (mid after : HeldJob) (seen : Snapshot) (bytes : List ℕ) (first r
     → AfterTurn (view_over mid seen bytes) (pass_reads mid.catalogue) first answer after.state reads
 after_turn mid after seen bytes first reads answer cut turns weighs is way = told answer is
   where
-    turns_to : (t : Turning) → turning_of (context_in mid) mid.state ≡ t → AfterTurning (view_over mid seen bytes) (pass_reads mid.catalogue) first reads t
+    turns_to : (t : Turning JobState) → turning_of (context_in mid) mid.state ≡ t → AfterTurning (view_over mid seen bytes) (pass_reads mid.catalogue) first reads t
     turns_to t same =
         subst (AfterTurning (view_over mid seen bytes) (pass_reads mid.catalogue) first reads) same
         (under_way-turns (view_over mid seen bytes) (pass_reads mid.catalogue) first mid.state reads cut turns weighs way)

@@ -11,10 +11,11 @@ use Rattle.gm_label.specs.Catalogues.{Catalogue, place_at}
 use Rattle.gm_source.specs.Openings.{chunk_reads}
 use Rattle.gm_source.specs.Fetches.{TellsGrid}
 use Rattle.gm_kernel.specs.Runs.{lone_run}
+use Rattle.gm_kernel.specs.Standings.{Standing}
 use Rattle.gm_active.specs.Bits.{is_in}
-use Rattle.gm_work.specs.declared.phase.Phase.{Phase}
+use Rattle.gm_kernel.specs.declared.phase.Phase.{Phase}
 use Rattle.gm_work.specs.JobStates.{JobState}
-use Rattle.gm_work.specs.Views.{JobView, Standing, InPhase, needed_in, IsMidRound}
+use Rattle.gm_work.specs.Views.{JobView, InPhase, needed_in, IsMidRound}
 use Rattle.gm_work.specs.Weights.{run_weight, weight_left}
 use Rattle.gm_grid.specs.GridBytes.{edges_in}
 use Rattle.gm_source.specs.declared.fetching.FetchError.{FetchError}

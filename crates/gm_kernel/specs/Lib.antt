@@ -8,3 +8,4 @@ pub mod PassRules
 pub mod RunsRules
 pub mod ActivityRules
 pub mod SettlingRules
+pub mod Standings

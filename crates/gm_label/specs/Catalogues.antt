@@ -90,6 +90,7 @@ pub record IsOver (cat : Catalogue) (edges : List Edge) : Type 0 where
   pub joined : flat_map (base_at cat edges) (chunk_numbers cat) ≡ edges
   pub one_last : (block : ℕ) → block < cat.dimensions.parts * cat.dimensions.parts → count_by (is_last_of cat block) (chunk_numbers cat) ≡ 1
   pub no_other : (block : ℕ) → cat.dimensions.parts * cat.dimensions.parts ≤ block → count_by (is_last_of cat block) (chunk_numbers cat) ≡ 0
+  pub in_range : (c : ℕ) → c < length cat.places → (place_at cat c).block < cat.dimensions.parts * cat.dimensions.parts
   pub in_block : (c : ℕ) → All (λ e. block_of cat.dimensions e ≡ (place_at cat c).block) (base_at cat edges c)
   pub listed : (c : ℕ) → All (λ e. list_any (λ s. s == e.from) (sources_at cat c) ≡ true) (base_at cat edges c)
 

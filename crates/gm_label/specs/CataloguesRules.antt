@@ -6,7 +6,7 @@ use Rattle.std.proofs.Math.Nat.{div-mul-le_self, mul-le-mul_left, div-lt_iff_lt-
 use Rattle.std.proofs.lemmas.Nat.{div-mul-add}
 use Rattle.std.proofs.lemmas.List.{length-map, length-take-le, drop_more, get_or_at, map_more, set_at, take_all, drop_all}
 use Rattle.std.proofs.lemmas.List.FromFn.{fill_by_all}
-use Rattle.std.proofs.lemmas.List.Elements.{All-nil, All-weaker}
+use Rattle.std.proofs.lemmas.List.Elements.{All-nil, All-weaker, All-get_or}
 use Rattle.std.proofs.Math.ListN.{get_or-map}
 use Rattle.gm_base.specs.declared.edge.Edge.{Edge}
 use Rattle.gm_base.specs.Dimensions.{Dimensions, AreDimensions, width_of, range_of, block_of}
@@ -14,7 +14,7 @@ use Rattle.gm_base.specs.DimensionsRules.{width_above, range_below}
 use Rattle.gm_base.specs.Graph.{HasEndsBelow}
 use Rattle.gm_label.specs.declared.chunk.Place.{Place}
 use Rattle.gm_label.specs.Chunks.{chunks_of, base_of}
-use Rattle.gm_label.specs.ChunksRules.{block-joined, chunks-joined, chunks-full, chunks-in_blocks, chunks-lie, blocks-in_blocks, chunks-within, chunks-have_edges, chunks-count_edges, length-chunks_of, is_last_in, none_last, one_last}
+use Rattle.gm_label.specs.ChunksRules.{block-joined, chunks-joined, chunks-full, chunks-in_blocks, chunks-lie, blocks-in_blocks, chunks-within, chunks-have_edges, chunks-count_edges, length-chunks_of, is_last_in, none_last, one_last, chunks-in_range}
 use Rattle.gm_label.specs.Labels.{label_of, sources_of}
 use Rattle.gm_label.specs.LabelsRules.{sum_by-map, label-counts, label-lists, label-sources, label-total, label_of-is_label, one_label}
 use Rattle.gm_label.specs.Catalogues.{Catalogue, no_place, place_at, label_at, base_at, catalogue_of, unlabelled, with_label, labelled_up_to, first_source_of, IsSourceIn, FitsChunk, IsCut, IsOver}
@@ -100,6 +100,9 @@ catalogue-is_over d size counts edges cut =
       no_other = λ block beyond.
           sum_by-numbers (λ (p : Place). cond (is_last_in block p) 1 0) no_place chunks
           ∙ none_last size 0 0 block counts (inr (omega arith));
+      in_range = λ c within.
+          let all = cut.blocks in
+          All-get_or (λ (p : Place). p.block < d.parts * d.parts) chunks c no_place within (chunks-in_range (d.parts * d.parts) size 0 0 counts (omega (arith, all)));
       in_block = All-at (λ (p : Place). All (λ e. block_of d e ≡ p.block) (base_of edges p)) no_place chunks (chunks-in_blocks d size counts edges cut.in_blocks) (All-nil (λ e. block_of d e ≡ no_place.block));
       listed = λ c.
           subst (λ (label : List (ℕ × ℕ)). All (λ (e : Edge). list_any (λ s. eqb s e.from) (sources_of label) ≡ true) (base_at cat edges c))

@@ -7,7 +7,7 @@ use Rattle.std.proofs.Math.Seq.{take-add}
 use Rattle.std.proofs.Math.Nat.{div-add-mod}
 use Rattle.std.proofs.lemmas.Nat.{div-mul-add}
 use Rattle.std.proofs.lemmas.List.{take_at, drop_at, drop-drop, take_all, length-drop, length-take-le}
-use Rattle.std.proofs.lemmas.List.Elements.{All-nil, All-cons, All-head, All-tail, All-weaker, All-from_recursion}
+use Rattle.std.proofs.lemmas.List.Elements.{All-nil, All-cons, All-head, All-tail, All-weaker, All-append, All-from_recursion}
 use Rattle.std.proofs.lemmas.List.Sums.{sum_by-cons, sum_by-append}
 use Rattle.std.proofs.lemmas.List.Concat.{flat_map-append}
 use Rattle.gm_base.specs.declared.edge.Edge.{Edge}
@@ -288,3 +288,19 @@ counted_from size block first (count ∷ counts) =
 -- all chunks have all edges
 pub chunks-count_edges : (size : ℕ) (counts : List ℕ) → sum_by (λ (p : Place). p.count) (chunks_of size counts) ≡ sum counts
 chunks-count_edges size counts = counted_from size 0 0 counts
+
+cut-in_range : (blocks size block first rest more : ℕ) → block < blocks → All (λ (p : Place). p.block < blocks) (cut_rest size block first rest more)
+cut-in_range blocks size block first rest zero below =
+    All-cons (λ (p : Place). p.block < blocks) (record { block = block; first = first; count = rest; is_last = true }) [] below (All-nil (λ (p : Place). p.block < blocks))
+cut-in_range blocks size block first rest (suc more) below =
+    All-cons (λ (p : Place). p.block < blocks) (record { block = block; first = first; count = size; is_last = false }) (cut_rest size block (first + size) rest more) below
+    (cut-in_range blocks size block (first + size) rest more below)
+
+-- each chunk is of one of the blocks
+pub chunks-in_range : (blocks size block first : ℕ) (counts : List ℕ) → block + length counts ≤ blocks
+    → All (λ (p : Place). p.block < blocks) (chunks_from size block first counts)
+chunks-in_range blocks size block first [] within = All-nil (λ (p : Place). p.block < blocks)
+chunks-in_range blocks size block first (count ∷ counts) within =
+    All-append (λ (p : Place). p.block < blocks) (chunks_of_block size block first count) (chunks_from size (block + 1) (first + count) counts)
+    (cut-in_range blocks size block first (count - size * before_last size count) (before_last size count) (omega arith))
+    (chunks-in_range blocks size (block + 1) (first + count) counts (omega arith))

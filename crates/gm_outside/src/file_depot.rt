@@ -116,6 +116,7 @@ mod tests {
     use crate::reading::read_whole;
     use crate::traits::{Depot, Trouble};
     use std::fs;
+    use std::io::{Seek, SeekFrom, Write};
     use std::test::Fail;
 
     #[test]
@@ -127,6 +128,9 @@ mod tests {
             ("sizes_none.bin", Ok(None)),
             (".", Err(Trouble::Failed)),
             ("/dev/null", Err(Trouble::Failed)),
+            // a name below a file, and a name that no file can have
+            ("sizes.bin/b", Err(Trouble::Failed)),
+            ("sizes\0.bin", Err(Trouble::Failed)),
         ];
         for (name, want) in sizes {
             assert_eq!(rt; depot.size(name), want, "{name}");
@@ -156,6 +160,29 @@ mod tests {
             assert!(rt; want.is_err() || &into[..count] == bytes.as_bytes());
         }
         fs::remove_file(&rt, "ranges.bin")?;
+        Ok(())
+    }
+
+    /// All but the last bytes of the file are a hole: a place that is cut to 32 bits would find zeros.
+    #[test]
+    fn a_file_above_4_gib(rt: HostRuntime) -> Result<(), Fail> {
+        let mut file = fs::create(&rt, "huge.bin")?;
+        file.seek(SeekFrom::Start(4_294_967_300))?;
+        file.write_all(b"abcd".as_slice())?;
+        let mut depot = FileDepot::new(rt.clone()?);
+        assert_eq!(rt; depot.size("huge.bin"), Ok(Some(4_294_967_304)));
+        let mut into = [0u8; 3];
+        for (pos, want) in [
+            (4, b"\0\0\0"),
+            (4_294_967_300, b"abc"),
+            (4_294_967_301, b"bcd"),
+        ] {
+            depot.read_at("huge.bin", pos, &mut into)?;
+            assert_eq!(rt; &into, want, "at {pos}");
+        }
+        let past = depot.read_at("huge.bin", 4_294_967_302, &mut into);
+        assert_eq!(rt; past, Err(Trouble::Failed));
+        fs::remove_file(&rt, "huge.bin")?;
         Ok(())
     }
 

@@ -39,7 +39,7 @@ mod tests {
     use super::WriteSink;
     use crate::traits::{Sink, Trouble};
     use std::fs;
-    use std::io::{self, Write};
+    use std::io::{self, ErrorKind, Write};
     use std::test::Fail;
 
     /// A writer that takes so many bytes, one at a write, and then none.
@@ -68,6 +68,46 @@ mod tests {
         assert_eq!(rt; sink.write(b"job a ".as_slice()), Ok(()));
         assert_eq!(rt; sink.write(b"vers".as_slice()), Err(Trouble::Failed));
         assert_eq!(rt; sink.write(b"".as_slice()), Ok(()));
+        Ok(())
+    }
+
+    /// A writer that is interrupted at the write of this number, and takes one byte at each other one.
+    #[derive(Drop)]
+    struct Interrupted {
+        number: usize,
+        writes: usize,
+        taken: Vec<u8>,
+    }
+
+    impl Write for Interrupted {
+        fn write(&mut self, bytes: &[u8]) -> io::Result<usize> {
+            self.writes = self.writes.saturating_add(1);
+            if self.writes == self.number {
+                return Err(io::Error::from(ErrorKind::Interrupted));
+            }
+            let front = bytes.get(..1).unwrap_or(&[]);
+            self.taken.extend_from_slice(front)?;
+            Ok(front.len())
+        }
+
+        fn flush(&mut self) -> io::Result<()> {
+            Ok(())
+        }
+    }
+
+    #[test]
+    fn an_interrupted_write_is_tried_again(rt: HostRuntime) -> Result<(), Fail> {
+        for number in [1, 3, 6] {
+            let mut writer = Interrupted {
+                number,
+                writes: 0,
+                taken: Vec::new(rt.alloc()),
+            };
+            let mut sink = WriteSink::new(&mut writer);
+            assert_eq!(rt; sink.write(b"job a ".as_slice()), Ok(()), "{number}");
+            assert_eq!(rt; writer.taken.as_slice(), b"job a ".as_slice(), "{number}");
+            assert_eq!(rt; writer.writes, 7, "{number}");
+        }
         Ok(())
     }
 

@@ -5,3 +5,4 @@ pub mod Chunking
 pub mod LabelledChunks
 pub mod ToldChunks
 pub mod Fetched
+pub mod RefusalReads

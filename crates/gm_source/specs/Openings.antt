@@ -1,5 +1,5 @@
 -- What opening a grid answers, and what is known of its file then.
-use Rattle.std.specs.Prelude.{◌≡◌, ◌≢◌, ℕ, min, ◌+◌, ◌*◌, ◌<◌, ◌≤◌, Bool, not, ◌&&◌, is_none, if◌then◌else◌, List, [], length, take, map, flat_map, sum_by, slice_get, All, IsTrue, Option, Some, None, IfSome, IsSomeAnd, Result, Ok, Err, IsErrOf}
+use Rattle.std.specs.Prelude.{◌≡◌, ◌≢◌, ℕ, min, ◌+◌, ◌*◌, ◌<◌, ◌≤◌, Bool, not, ◌&&◌, is_none, nat_lt, if◌then◌else◌, List, [], ◌∷◌, length, take, map, flat_map, sum_by, slice_get, All, IsTrue, Option, Some, None, IfSome, IsSomeAnd, Result, Ok, Err, IsErrOf}
 use Rattle.std.specs.List.{position}
 use Rattle.std.specs.FinMap.{get}
 use Rattle.gm_base.specs.declared.edge.Edge.{Edge}
@@ -14,6 +14,7 @@ use Rattle.gm_outside.specs.States.{DepotState}
 use Rattle.gm_grid.specs.declared.grid_error.GridError.TheVariants as grid_errors
 use Rattle.gm_grid.specs.declared.grid_error.IndexError.{IndexError}
 use Rattle.gm_grid.specs.declared.grid_error.IndexError.TheVariants as index_errors
+use Rattle.gm_grid.specs.declared.sizes.TheConstants.{HEAD_SIZE}
 use Rattle.gm_grid.specs.Format.{IsGrid, dimensions_of, edges_of_grid}
 use Rattle.gm_grid.specs.GridBytes.{index_end, shape_in, counts_in, edges_in}
 use Rattle.gm_grid.specs.GridRefusals.{grid_refusal, refusal_by_head, refusal_by_index, refusal_by_chunks, is_misplaced}
@@ -165,7 +166,26 @@ are_chunks_read size bytes =
     && is_none (refusal_by_index (length bytes) (counts_in bytes))
     && is_none (refusal_by_chunks size (counts_in bytes))
 
--- how many reads opening a file takes at most: the head and the index, and each chunk with edges where the chunks are read
+-- how many reads its chunks take up to the first edge that isn't in its block: one for each chunk with edges
+unfoldable pub edge_reads : Dimensions → List Edge → List Place → ℕ
+edge_reads d edges [] = 0
+edge_reads d edges (place ∷ places) =
+    chunk_reads place
+    + (if is_none (position (is_misplaced d) (placed_of edges place)) then edge_reads d edges places else 0)
+
+-- no more was read than these chunks of these bytes take up to the first such edge
+abbrev pub LabelsBy : List Place → DepotState → DepotState → List ℕ → Type 0
+LabelsBy places old new bytes = ReadsUpTo (edge_reads (shape_in bytes) (edges_in bytes) places) old new
+
+-- how many reads its head and its index take: none where it is too short for a head, one where that refuses it
+abbrev pub head_reads : List ℕ → ℕ
+head_reads bytes =
+    if nat_lt (length bytes) HEAD_SIZE then 0
+    else if is_none (refusal_by_head (length bytes) (take 16 bytes)) then 2
+    else 1
+
+-- how many reads opening a file takes, up to the one that shows its refusal
 abbrev pub file_reads : ℕ → List ℕ → ℕ
 file_reads size bytes =
-    if are_chunks_read size bytes then opening_reads (chunks_of size (counts_in bytes)) else 2
+    if are_chunks_read size bytes then 2 + edge_reads (shape_in bytes) (edges_in bytes) (chunks_of size (counts_in bytes))
+    else head_reads bytes

@@ -6,7 +6,7 @@ ghost use Rattle.gm_outside.specs.Frames.{OnlyReads};
 ghost use Rattle.gm_label.specs.Catalogues.{place_at, label_at, with_label};
 ghost use Rattle.gm_label.specs.Labels.{label_of};
 ghost use Rattle.gm_source.specs.Fetches.{LiesInChunk};
-ghost use Rattle.gm_source.specs.Openings.{OpensBy, ReadsJust, IsTold, HasLabelled, IsSameCut, IsSetAt, IsFreshFrom, IsPlanned, chunk_reads};
+ghost use Rattle.gm_source.specs.Openings.{OpensBy, ReadsJust, IsTold, HasLabelled, IsSameCut, IsSetAt, IsFreshFrom, IsPlanned, LabelsBy, chunk_reads};
 
 use crate::OpenError;
 use crate::fetching::{Fetcher, count_sources, read_chunk};
@@ -94,6 +94,10 @@ impl Fetcher {
             (D.state depot.old) (D.state depot.new) result }
         ensures read { OnOk result
             (ReadsJust (sum_by chunk_reads cat.old.places) (D.state depot.old) (D.state depot.new)) }
+        ensures few_reads { (size : ℕ)
+            → IsTold (D.state depot.old).files name.now (HasLabelled size 0 cat.old)
+            → IsTold (D.state depot.old).files name.now
+            (LabelsBy cat.old.places (D.state depot.old) (D.state depot.new)) }
     {
         for chunk in 0..cat.chunks() {
             self.label_chunk(depot, name, chunk, cat)?;
@@ -120,6 +124,9 @@ impl Fetcher {
             (D.state depot.old) (D.state depot.new) result }
         ensures read { OnOk result
             (ReadsJust (sum_by chunk_reads cat.old.places) (D.state depot.old) (D.state depot.new)) }
+        ensures few_reads { IsTold (D.state depot.old).files name.now (HasLabelled chunk_size 0 cat.old)
+            → IsTold (D.state depot.old).files name.now
+            (LabelsBy cat.old.places (D.state depot.old) (D.state depot.new)) }
     {
         widen(&mut self.buffer, 12 * chunk_size as usize)?;
         self.label_chunks(depot, name, cat)

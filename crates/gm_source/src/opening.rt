@@ -1,6 +1,6 @@
 //! Opening a grid.
 
-ghost use Rattle.std.specs.Prelude.{◌≡◌, ◌+◌, ◌≤◌, ◌*◌, ℕ, length, IfSome, IfOk, OnOk, Some, None, IfErr, sum};
+ghost use Rattle.std.specs.Prelude.{◌≡◌, ◌+◌, ◌<◌, ◌≤◌, ◌*◌, ℕ, length, IfSome, IfOk, OnOk, Some, None, IfErr, sum};
 ghost use Rattle.std.specs.FinMap.{get};
 ghost use Rattle.std.specs.Result.{result_err};
 ghost use Rattle.gm_base.specs.declared.limits.TheConstants.{MAX_CHUNKS, MAX_CHUNK_SIZE, MAX_EDGES};
@@ -9,7 +9,7 @@ ghost use Rattle.gm_grid.specs.GridBytes.{counts_in, counts_of_index, index_end,
 ghost use Rattle.gm_grid.specs.GridRefusals.{refusal_by_head, refusal_by_index, refusal_by_chunks};
 ghost use Rattle.gm_label.specs.Chunks.{chunks_of};
 ghost use Rattle.gm_label.specs.Catalogues.{unlabelled};
-ghost use Rattle.gm_source.specs.Openings.{OpensBy, ReadsJust, ReadsUpTo, IsTold, HasHead, HasIndex, HasLabelled, IsPlanned, IsRefusedByIndex, IsRefusedByChunks, IsCatalogueOf, file_reads, opening_reads};
+ghost use Rattle.gm_source.specs.Openings.{OpensBy, ReadsJust, ReadsUpTo, IsTold, HasHead, HasIndex, HasLabelled, IsPlanned, IsRefusedByIndex, IsRefusedByChunks, IsCatalogueOf, head_reads, file_reads, opening_reads};
 
 use crate::OpenError;
 use crate::fetching::Fetcher;
@@ -60,6 +60,7 @@ fn read_shape<D: Depot>(depot: &mut D, name: &str, size: u64) -> Result<Shape, O
     ensures head { IfOk result (λ shape. IsTold (D.state depot.old).files name.now (HasHead shape)) }
     ensures long { IfOk result (λ shape. index_end shape ≤ size) }
     ensures read { OnOk result (ReadsJust 1 (D.state depot.old) (D.state depot.new)) }
+    ensures short { size < 16 → (D.state depot.new).reads ≡ (D.state depot.old).reads }
     ensures opens { (chunk_size : ℕ) → OpensBy 0 1 chunk_size name.now
         (D.state depot.old) (D.state depot.new) result }
 {
@@ -139,6 +140,8 @@ fn read_plan<D: Depot>(
         IsTold (D.state depot.old).files name.now (HasLabelled chunk_size 0 cat)) }
     ensures chunks { IfOk result (IsPlanned chunk_size) }
     ensures read { OnOk result (ReadsJust 2 (D.state depot.old) (D.state depot.new)) }
+    ensures few_reads { IfSome (D.state depot.old).files (λ held. IfSome (get held name.now)
+        (λ bytes. ReadsUpTo (head_reads bytes) (D.state depot.old) (D.state depot.new))) }
     ensures opens { OpensBy 1 2 chunk_size name.now (D.state depot.old) (D.state depot.new) result }
 {
     let size = file_size(depot, name)?;

@@ -6,7 +6,7 @@ use Rattle.gm_base.specs.declared.job.Spec.{Spec}
 use Rattle.gm_kernel.specs.Kernels.{kernel_of}
 use Rattle.gm_label.specs.declared.chunk.Overlay.{Overlay}
 use Rattle.gm_label.specs.Catalogues.{Catalogue}
-use Rattle.gm_work.specs.declared.phase.Phase.TheVariants.{Counting, Round}
+use Rattle.gm_kernel.specs.declared.phase.Phase.TheVariants.{Counting, Round}
 use Rattle.gm_work.specs.JobStates.{JobContext, JobState, counts_degrees, counted_chunks_of, needed_chunks_of, initial_values, carried_values, each_vertex}
 use Rattle.gm_work.specs.HeldJobs.{HeldJob, context_of, context_in, admitted_job}
 use Rattle.gm_work.specs.Steps.{unbegun_state, with_round}

@@ -12,7 +12,7 @@ use Rattle.gm_label.specs.Overlays.{sources_under}
 use Rattle.gm_active.specs.Bits.{is_in}
 use Rattle.gm_active.specs.Needs.{needed_chunks}
 use Rattle.gm_kernel.specs.Runs.{most_rounds}
-use Rattle.gm_work.specs.declared.phase.Phase.{Phase}
+use Rattle.gm_kernel.specs.declared.phase.Phase.{Phase}
 use Rattle.gm_work.specs.JobStates.{counts_degrees, needed_chunks_of, carried_values}
 use Rattle.gm_work.specs.Stored.{round_of_phase, AreSharesIn, IsStored}
 use Rattle.gm_work.specs.HeldJobs.{HeldJob, context_of, context_in}

@@ -3,6 +3,7 @@ pub mod Rounds
 pub mod Counting
 pub mod MidRound
 pub mod Turns
+pub mod LaterPhases
 pub mod Weights
 pub mod Grids
 pub mod Standings

@@ -13,11 +13,12 @@ use Rattle.gm_kernel.specs.KernelsRules.{laws_of}
 use Rattle.gm_kernel.specs.Runs.{joined_at, values_after, most_rounds}
 use Rattle.gm_kernel.specs.RunsRules.{none_before-one}
 use Rattle.gm_kernel.specs.PassRules.{joined_at-same_graph}
+use Rattle.gm_kernel.specs.Standings.{Standing, with_passed}
 use Rattle.gm_active.specs.Bits.{is_in}
-use Rattle.gm_work.specs.declared.phase.Phase.{Phase}
-use Rattle.gm_work.specs.declared.phase.Phase.TheVariants.{Counting, Round}
+use Rattle.gm_kernel.specs.declared.phase.Phase.{Phase}
+use Rattle.gm_kernel.specs.declared.phase.Phase.TheVariants.{Counting, Round}
 use Rattle.gm_work.specs.JobStates.{JobState, kernel_in, counts_degrees, counted_chunks_of, first_state, degrees_with, sums_with, state_after_pass_in, state_after_pass}
-use Rattle.gm_work.specs.Views.{JobView, Standing, values_at, degrees_of, needed_in, owed_after, first_standing, with_passed, degrees_after, sums_after, state_in, state_at, InPhase, IsMidRound}
+use Rattle.gm_work.specs.Views.{JobView, values_at, degrees_of, needed_in, owed_after, first_standing, degrees_after, sums_after, state_in, state_at, InPhase, IsMidRound}
 
 -- ---- begins
 

@@ -9,8 +9,8 @@ use Rattle.gm_base.specs.declared.job.Spec.{Spec}
 use Rattle.gm_base.specs.Graph.{out_degree}
 use Rattle.gm_kernel.specs.Kernels.{kernel_of}
 use Rattle.gm_kernel.specs.Runs.{joined_at}
-use Rattle.gm_work.specs.declared.phase.Phase.{Phase}
-use Rattle.gm_work.specs.declared.phase.Phase.TheVariants.{Counting, Round}
+use Rattle.gm_kernel.specs.declared.phase.Phase.{Phase}
+use Rattle.gm_kernel.specs.declared.phase.Phase.TheVariants.{Counting, Round}
 use Rattle.gm_work.specs.JobStates.{JobState, state_after_pass, state_after_pass_in}
 use Rattle.gm_work.specs.HeldJobs.{HeldJob, context_in}
 

@@ -19,7 +19,7 @@ use Rattle.gm_kernel.specs.Activity.{active_in_round, IsQuiet}
 use Rattle.gm_kernel.specs.ActivityRules.{next_values_skipping_quiet}
 use Rattle.gm_active.specs.Bits.{is_in, any_between}
 use Rattle.gm_active.specs.Needs.{has_source, is_needed, first_destination_of, end_destination_of}
-use Rattle.gm_work.specs.declared.phase.Phase.TheVariants.{Round}
+use Rattle.gm_kernel.specs.declared.phase.Phase.TheVariants.{Round}
 use Rattle.gm_work.specs.JobStates.{kernel_in, counts_degrees, owes_any}
 use Rattle.gm_work.specs.Views.{JobView, IsCutIntoChunks, values_at, degrees_of, needed_in, owed_after, sums_after, WerePassed}
 use Rattle.gm_work.proofs.Lists.{by_test, second, has_passed, AreChunks, passed_once, is_owed, none_owed, and-true, left_over, kept, kept_and_left}

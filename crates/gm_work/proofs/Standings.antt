@@ -3,9 +3,10 @@ use Rattle.std.specs.Prelude.{◌≡◌, ℕ, true, false, not, ◌&&◌, ◌==�
 use Rattle.std.specs.List.{list_any}
 use Rattle.std.proofs.Common.{sym, ap, ◌∙◌}
 use Rattle.std.proofs.lemmas.Bool.{and_parts}
+use Rattle.gm_kernel.specs.Standings.{Standing, with_passed}
 use Rattle.gm_active.specs.Bits.{is_in}
 use Rattle.gm_work.specs.JobStates.{JobState}
-use Rattle.gm_work.specs.Views.{JobView, Standing, owed_at, with_passed, needed_in, IsMidRound}
+use Rattle.gm_work.specs.Views.{JobView, owed_at, needed_in, IsMidRound}
 use Rattle.gm_work.proofs.Lists.{is_in-off, has_passed, is_owed, passed_not_owed}
 use Rattle.gm_work.proofs.MidRound.{owed_is}
 

@@ -5,11 +5,12 @@ use Rattle.std.proofs.lemmas.List.FromFn.{fill_by_all}
 use Rattle.std.proofs.lemmas.Bool.{cond-false}
 use Rattle.gm_base.specs.declared.job.Outcome.TheVariants.{Done, Rounds}
 use Rattle.gm_kernel.specs.Runs.{most_rounds}
+use Rattle.gm_kernel.specs.Standings.{Turning}
 use Rattle.gm_active.specs.Bits.{is_in, any_between}
-use Rattle.gm_work.specs.declared.phase.Phase.{Phase}
-use Rattle.gm_work.specs.declared.phase.Phase.TheVariants.{Counting, Round}
-use Rattle.gm_work.specs.JobStates.{JobContext, JobState, Turning, owes_any, phases_left, phase_end_of, phase_end_in, is_done_by, turning_of, turning_within}
-use Rattle.gm_work.specs.JobStates.Turning.{Goes, Ends}
+use Rattle.gm_kernel.specs.declared.phase.Phase.{Phase}
+use Rattle.gm_kernel.specs.declared.phase.Phase.TheVariants.{Counting, Round}
+use Rattle.gm_work.specs.JobStates.{JobContext, JobState, owes_any, phases_left, phase_end_of, phase_end_in, is_done_by, turning_of, turning_within}
+use Rattle.gm_kernel.specs.Standings.Turning.{Goes, Ends}
 use Rattle.gm_work.specs.HeldJobs.{HeldJob, context_in, context_of, IsSameJob}
 use Rattle.gm_work.specs.Steps.{with_next_round}
 use Rattle.gm_work.specs.Stored.{round_of_phase}
@@ -27,8 +28,8 @@ owes-between owed =
     ∙ sym (ap (list_any (λ o. o)) by_number ∙ list_any-map (is_in owed) (range_with_len 0 (length owed)))
 
 -- what a turn goes on with after a phase's end
-abbrev after : ℕ → JobContext → Turning → Turning
-after more k t = elim t as (λ _. Turning) [ Goes next ↦ turning_within more k next | Ends outcome ↦ Ends outcome ]
+abbrev after : ℕ → JobContext → Turning JobState → Turning JobState
+after more k t = elim t as (λ _. Turning JobState) [ Goes next ↦ turning_within more k next | Ends outcome ↦ Ends outcome ]
 
 -- what becomes of a job that owes nothing
 turning_of-next : (k : JobContext) (e : JobState) (more : ℕ) → owes_any e.owed ≡ false → phases_left k.spec e.phase ≡ suc more
@@ -37,12 +38,12 @@ turning_of-next k e more none left =
     ap (λ (n : ℕ). turning_within n k e) left ∙ cond-false (owes_any e.owed) (Goes e) (after more k (phase_end_of k e)) none
 
 -- the phase in which a job goes on
-abbrev phase_of : Turning → Phase
+abbrev phase_of : Turning JobState → Phase
 phase_of (Goes e) = e.phase
 phase_of (Ends outcome) = Counting 0
 
 -- the end of a round, by its two tests
-abbrev round_ended : JobContext → JobState → ℕ → Bool → Bool → Turning
+abbrev round_ended : JobContext → JobState → ℕ → Bool → Bool → Turning JobState
 round_ended k e r done last =
     cond done (Ends (Done (r + 1) e.sums)) (cond last (Ends (Rounds (r + 1))) (Goes (with_next_round k (r + 1) e)))
 

@@ -11,13 +11,13 @@ use Rattle.gm_kernel.specs.Kernels.{kernel_of}
 use Rattle.gm_kernel.specs.Runs.{values_after, most_rounds, is_done_after, is_settled_by, lone_run, NoneBefore}
 use Rattle.gm_kernel.specs.RunsRules.{none_before-next, lone_run-done, lone_run-rounds}
 use Rattle.gm_kernel.specs.Activity.{activity_of, active_at}
+use Rattle.gm_kernel.specs.Standings.{Standing, Turning, then_turning}
 use Rattle.gm_active.specs.Needs.{needed_chunks}
-use Rattle.gm_work.specs.declared.phase.Phase.{Phase}
-use Rattle.gm_work.specs.declared.phase.Phase.TheVariants.{Counting, Round}
-use Rattle.gm_work.specs.JobStates.{JobContext, JobState, kernel_in, counts_degrees, carried_values, needed_chunks_of, counted_chunks_of, is_done_by, phase_end_of, phase_end_in, owes_any, phases_left, then_turning, turning_within, turning_of, Turning}
-use Rattle.gm_work.specs.JobStates.Turning.{Goes, Ends}
-use Rattle.gm_work.specs.Views.{JobView, IsCutIntoChunks, Standing, StandingTurn, values_at, degrees_of, needed_in, owed_after, sums_after, state_in, InRound, InPhase, WerePassed, IsMidRound, next_phase, then_turning_at, turn_within, turn_at, IsTurnedWell}
-use Rattle.gm_work.specs.Views.StandingTurn.{StandsAt, EndsWith}
+use Rattle.gm_kernel.specs.declared.phase.Phase.{Phase}
+use Rattle.gm_kernel.specs.declared.phase.Phase.TheVariants.{Counting, Round}
+use Rattle.gm_work.specs.JobStates.{JobContext, JobState, kernel_in, counts_degrees, carried_values, needed_chunks_of, counted_chunks_of, is_done_by, phase_end_of, phase_end_in, owes_any, phases_left, turning_within, turning_of}
+use Rattle.gm_kernel.specs.Standings.Turning.{Goes, Ends}
+use Rattle.gm_work.specs.Views.{JobView, IsCutIntoChunks, values_at, degrees_of, needed_in, owed_after, sums_after, state_in, InRound, InPhase, WerePassed, IsMidRound, next_phase, turn_within, turn_at, IsTurnedWell}
 use Rattle.gm_work.proofs.Lists.{by_test}
 use Rattle.gm_work.proofs.Rounds.{closes}
 use Rattle.gm_work.proofs.Counting.{counts_close}
@@ -84,7 +84,7 @@ next_round d r =
     }) (sym later) back
 
 -- what a round leads to, by the values after it and whether the job is then done
-abbrev round_led_to : JobView → ℕ → List ℕ → Bool → Turning
+abbrev round_led_to : JobView → ℕ → List ℕ → Bool → Turning JobState
 round_led_to d r sums done =
     if done then Ends (Done (r + 1) sums)
     else if eqb (r + 1) (most_rounds d.context.spec) then Ends (Rounds (r + 1))
@@ -96,11 +96,11 @@ round_led_to d r sums done =
       owed = needed_chunks_of d.context false (values_at d r) sums (degrees_of d);
     })
 
-abbrev stands_then : JobView → ℕ → Bool → StandingTurn
+abbrev stands_then : JobView → ℕ → Bool → Turning Standing
 stands_then d r done =
-    if done then EndsWith (lone_run d.context.spec d.context.dimensions.n d.edges)
-    else if eqb (r + 1) (most_rounds d.context.spec) then EndsWith (lone_run d.context.spec d.context.dimensions.n d.edges)
-    else StandsAt (standing (Round (r + 1)) [])
+    if done then Ends (lone_run d.context.spec d.context.dimensions.n d.edges)
+    else if eqb (r + 1) (most_rounds d.context.spec) then Ends (lone_run d.context.spec d.context.dimensions.n d.edges)
+    else Goes (standing (Round (r + 1)) [])
 
 -- what is known of turns with less to go
 abbrev TurnsWell : ℕ → JobView → Type 0
@@ -124,7 +124,7 @@ next_well more d r again left round going other =
 
 ends_well : (more : ℕ) (d : JobView) (r : ℕ) → TurnsWell more d → suc more ≡ phases_left d.context.spec (Round r) → InRound d r
     → (done : Bool) → is_done_after d.context.spec d.context.dimensions.n d.edges (r + 1) ≡ done
-    → IsTurnedWell d (then_turning_at (turn_within more d) (stands_then d r done)) (then_turning (turning_within more d.context) (round_led_to d r (values_at d (r + 1)) done))
+    → IsTurnedWell d (then_turning (turn_within more d) (stands_then d r done)) (then_turning (turning_within more d.context) (round_led_to d r (values_at d (r + 1)) done))
 ends_well more d r again left round true done =
     let below = round.0 in
     (sym (lone_run-done d.context.spec d.context.dimensions.n d.edges (r + 1) (omega arith) (omega (arith, below)) round.1 done), refl)
@@ -134,7 +134,7 @@ ends_well more d r again left round false going =
     let most = most_rounds spec in
     let below = round.0 in
     by_test (eqb (r + 1) most)
-    (λ b. IsTurnedWell d (then_turning_at (turn_within more d) (if b then EndsWith (lone_run spec n d.edges) else StandsAt (standing (Round (r + 1)) [])))
+    (λ b. IsTurnedWell d (then_turning (turn_within more d) (if b then Ends (lone_run spec n d.edges) else Goes (standing (Round (r + 1)) [])))
     (then_turning (turning_within more d.context) (if b then Ends (Rounds (r + 1)) else Goes (record {
       phase = Round (r + 1);
       values = values_at d (r + 1);
@@ -155,11 +155,11 @@ counting_well : (more : ℕ) (d : JobView) → IsCutIntoChunks d → (r : ℕ) (
     → IsTurnedWell d (turn_within (suc more) d (standing (Counting r) passed)) (turning_within (suc more) d.context (state_in d (Counting r) passed))
 counting_well more d cut r passed again left phase were =
     by_test (owes_any (owed_after (counted_chunks_of d.context) passed))
-    (λ b. IsTurnedWell d (if b then StandsAt (standing (Counting r) passed) else turn_within more d (standing (Round r) []))
+    (λ b. IsTurnedWell d (if b then Goes (standing (Counting r) passed) else turn_within more d (standing (Round r) []))
     (if b then Goes (state_in d (Counting r) passed) else then_turning (turning_within more d.context) (phase_end_in (Counting r) d.context (state_in d (Counting r) passed))))
     (λ owes. (record { phase = phase; passed = were; state = refl }, owes))
     (λ none.
-    subst (λ (t : Turning). IsTurnedWell d (turn_within more d (standing (Round r) [])) (then_turning (turning_within more d.context) t)) (sym (first_round d cut r passed phase.0 were none))
+    subst (λ (t : Turning JobState). IsTurnedWell d (turn_within more d (standing (Round r) [])) (then_turning (turning_within more d.context) t)) (sym (first_round d cut r passed phase.0 were none))
     (again (Round r) [] (omega (arith, left)) phase.1 tt))
 
 round_well : (more : ℕ) (d : JobView) → IsCutIntoChunks d → (r : ℕ) (passed : List ℕ) → TurnsWell more d → suc more ≡ phases_left d.context.spec (Round r)
@@ -167,7 +167,7 @@ round_well : (more : ℕ) (d : JobView) → IsCutIntoChunks d → (r : ℕ) (pas
     → IsTurnedWell d (turn_within (suc more) d (standing (Round r) passed)) (turning_within (suc more) d.context (state_in d (Round r) passed))
 round_well more d cut r passed again left round were =
     by_test (owes_any (owed_after (needed_in d (Round r)) passed))
-    (λ b. IsTurnedWell d (if b then StandsAt (standing (Round r) passed) else then_turning_at (turn_within more d) (next_phase d (Round r)))
+    (λ b. IsTurnedWell d (if b then Goes (standing (Round r) passed) else then_turning (turn_within more d) (next_phase d (Round r)))
     (if b then Goes (state_in d (Round r) passed) else then_turning (turning_within more d.context) (phase_end_in (Round r) d.context (state_in d (Round r) passed))))
     (λ owes. (record { phase = round; passed = were; state = refl }, owes))
     (λ none.
@@ -178,7 +178,7 @@ round_well more d cut r passed again left round were =
     ap (is_done_by spec (r + 1) (values_at d r)) made ∙ done_is spec d.context.dimensions.n d.edges r in
     let led : phase_end_in (Round r) d.context (state_in d (Round r) passed) ≡ round_led_to d r (values_at d (r + 1)) (is_done_after spec d.context.dimensions.n d.edges (r + 1)) =
     ap (λ (b : Bool). round_led_to d r sums b) done ∙ ap (λ (xs : List ℕ). round_led_to d r xs (is_done_after spec d.context.dimensions.n d.edges (r + 1))) made in
-    subst (λ (t : Turning). IsTurnedWell d (then_turning_at (turn_within more d) (next_phase d (Round r))) (then_turning (turning_within more d.context) t)) (sym led)
+    subst (λ (t : Turning JobState). IsTurnedWell d (then_turning (turn_within more d) (next_phase d (Round r))) (then_turning (turning_within more d.context) t)) (sym led)
     (ends_well more d r again left round (is_done_after spec d.context.dimensions.n d.edges (r + 1)) refl))
 
 turned_well : (fuel : ℕ) (d : JobView) → IsCutIntoChunks d → TurnsWell fuel d
@@ -198,26 +198,26 @@ turns d s e cut mid =
 
 -- ---- a job that goes on has fewer phases before it
 
-abbrev Lessens : JobContext → ℕ → Turning → Type 0
+abbrev Lessens : JobContext → ℕ → Turning JobState → Type 0
 Lessens k most (Goes e) = phases_left k.spec e.phase ≤ most
 Lessens k most (Ends outcome) = Unit {0}
 
 phase_lessens : (phase : Phase) (k : JobContext) (e : JobState) → Lessens k (phases_left k.spec phase - 1) (phase_end_in phase k e)
 phase_lessens (Counting r) k e = omega arith
 phase_lessens (Round r) k e =
-    let next : Turning = Goes (record { phase = Round (r + 1); values = e.sums; sums = carried_values k e.sums; degrees = e.degrees; owed = needed_chunks_of k false e.values e.sums e.degrees }) in
+    let next : Turning JobState = Goes (record { phase = Round (r + 1); values = e.sums; sums = carried_values k e.sums; degrees = e.degrees; owed = needed_chunks_of k false e.values e.sums e.degrees }) in
     let most = phases_left k.spec (Round r) - 1 in
     by_test (is_done_by k.spec (r + 1) e.values e.sums)
     (λ b. Lessens k most (if b then Ends (Done (r + 1) e.sums) else if eqb (r + 1) (most_rounds k.spec) then Ends (Rounds (r + 1)) else next))
     (λ _. tt)
     (λ _. by_test (eqb (r + 1) (most_rounds k.spec)) (λ b. Lessens k most (if b then Ends (Rounds (r + 1)) else next)) (λ _. tt) (λ _. omega arith))
 
-weaker : (k : JobContext) (less most : ℕ) (t : Turning) → Lessens k less t → less ≤ most → Lessens k most t
+weaker : (k : JobContext) (less most : ℕ) (t : Turning JobState) → Lessens k less t → less ≤ most → Lessens k most t
 weaker k less most (Goes f) h g = omega (arith, h, g)
 weaker k less most (Ends outcome) h g = tt
 
-then_lessens : (k : JobContext) (again : JobState → Turning) → ((e : JobState) → Lessens k (phases_left k.spec e.phase) (again e))
-    → (most : ℕ) (t : Turning) → Lessens k most t → Lessens k most (then_turning again t)
+then_lessens : (k : JobContext) (again : JobState → Turning JobState) → ((e : JobState) → Lessens k (phases_left k.spec e.phase) (again e))
+    → (most : ℕ) (t : Turning JobState) → Lessens k most t → Lessens k most (then_turning again t)
 then_lessens k again each most (Goes e) h = weaker k (phases_left k.spec e.phase) most (again e) (each e) h
 then_lessens k again each most (Ends outcome) h = tt
 
@@ -231,7 +231,7 @@ turned_lessens (suc more) k e =
     (then_lessens k (turning_within more k) (turned_lessens more k) (phases_left k.spec e.phase - 1) (phase_end_of k e) (phase_lessens e.phase k e)) (omega arith))
 
 -- nothing was owed, and now something is
-IsLater : JobContext → ℕ → Turning → Type 0
+IsLater : JobContext → ℕ → Turning JobState → Type 0
 IsLater k left (Goes f) = owes_any f.owed ≡ true → phases_left k.spec f.phase < left
 IsLater k left (Ends outcome) = Unit {0}
 
@@ -246,7 +246,7 @@ is_later (suc more) k e left none =
     (then_lessens k (turning_within more k) (turned_lessens more k) (phases_left k.spec e.phase - 1) (phase_end_of k e) (phase_lessens e.phase k e)))
     refl
   where
-    below : (t : Turning) → Lessens k (phases_left k.spec e.phase - 1) t → IsLater k (phases_left k.spec e.phase) t
+    below : (t : Turning JobState) → Lessens k (phases_left k.spec e.phase - 1) t → IsLater k (phases_left k.spec e.phase) t
     below (Goes f) h = λ owes. omega (arith, h, left)
     below (Ends outcome) h = tt
 

@@ -6,12 +6,13 @@ use Rattle.std.proofs.lemmas.Bool.{or_parts, eqb-true, eqb-false}
 use Rattle.std.proofs.lemmas.List.FromFn.{length-map-range_with_len}
 use Rattle.gm_kernel.specs.Runs.{most_rounds, is_done_after, lone_run, NoneBefore}
 use Rattle.gm_kernel.specs.RunsRules.{none_before-one, none_before-next, lone_run-done, lone_run-rounds}
+use Rattle.gm_kernel.specs.Standings.{Standing, with_passed, Turning, then_turning}
+use Rattle.gm_kernel.specs.Standings.Turning.{Goes, Ends}
 use Rattle.gm_active.specs.Bits.{is_in}
-use Rattle.gm_work.specs.declared.phase.Phase.{Phase}
-use Rattle.gm_work.specs.declared.phase.Phase.TheVariants.{Counting, Round}
+use Rattle.gm_kernel.specs.declared.phase.Phase.{Phase}
+use Rattle.gm_kernel.specs.declared.phase.Phase.TheVariants.{Counting, Round}
 use Rattle.gm_work.specs.JobStates.{JobState, counts_degrees, owes_any, phases_left}
-use Rattle.gm_work.specs.Views.{JobView, Standing, StandingTurn, needed_in, owed_at, first_standing, with_passed, InRound, InPhase, IsMidRound, next_phase, then_turning_at, turn_within, turn_at}
-use Rattle.gm_work.specs.Views.StandingTurn.{StandsAt, EndsWith}
+use Rattle.gm_work.specs.Views.{JobView, needed_in, owed_at, first_standing, InRound, InPhase, IsMidRound, next_phase, turn_within, turn_at}
 use Rattle.gm_work.specs.Weights.{weigh_from, weigh, rounds_of, run_rounds, rounds_weight, run_weight, weight_left, IsLeftBy}
 use Rattle.gm_work.proofs.Lists.{by_test}
 use Rattle.gm_work.proofs.Turns.{standing}
@@ -144,23 +145,23 @@ counting_left : (more : ℕ) (d : JobView) (weight : ℕ → ℕ) (r : ℕ) (pas
 counting_left more d weight r passed again left phase =
     let here = standing (Counting r) passed in
     by_test (owes_any (owed_at d here))
-    (λ b. IsLeftBy d weight (weight_left d weight here) (if b then StandsAt here else turn_within more d (standing (Round r) [])))
+    (λ b. IsLeftBy d weight (weight_left d weight here) (if b then Goes here else turn_within more d (standing (Round r) [])))
     (λ owes. refl)
     (λ none. subst (λ (left : ℕ). IsLeftBy d weight left (turn_within more d (standing (Round r) []))) (counting_ended d weight r passed phase.1 none)
     (again (Round r) [] (omega (arith, left)) phase.1))
 
 ended_left : (more : ℕ) (d : JobView) (weight : ℕ → ℕ) (r : ℕ) (passed : List ℕ) → IsLeftAt more d weight → suc more ≡ phases_left d.context.spec (Round r)
     → InRound d r → owes_any (owed_at d (standing (Round r) passed)) ≡ false
-    → IsLeftBy d weight (weight_left d weight (standing (Round r) passed)) (then_turning_at (turn_within more d) (next_phase d (Round r)))
+    → IsLeftBy d weight (weight_left d weight (standing (Round r) passed)) (then_turning (turn_within more d) (next_phase d (Round r)))
 ended_left more d weight r passed again left round none =
     let here = weight_left d weight (standing (Round r) passed) in
-    let over : StandingTurn = EndsWith (lone_run d.context.spec d.context.dimensions.n d.edges) in
-    let next : StandingTurn = StandsAt (standing (Round (r + 1)) []) in
+    let over : Turning Standing = Ends (lone_run d.context.spec d.context.dimensions.n d.edges) in
+    let next : Turning Standing = Goes (standing (Round (r + 1)) []) in
     let last = eqb (r + 1) (most_rounds d.context.spec) in
     by_test (is_done_after d.context.spec d.context.dimensions.n d.edges (r + 1))
-    (λ b. IsLeftBy d weight here (then_turning_at (turn_within more d) (if b then over else if last then over else next)))
+    (λ b. IsLeftBy d weight here (then_turning (turn_within more d) (if b then over else if last then over else next)))
     (λ done. nothing_left d weight r passed none (run-done d r round done))
-    (λ going. by_test last (λ b. IsLeftBy d weight here (then_turning_at (turn_within more d) (if b then over else next)))
+    (λ going. by_test last (λ b. IsLeftBy d weight here (then_turning (turn_within more d) (if b then over else next)))
     (λ is. nothing_left d weight r passed none (run-bound d r round going is))
     (λ other.
     let round_then = next_in_round d r round going other in
@@ -174,7 +175,7 @@ round_left : (more : ℕ) (d : JobView) (weight : ℕ → ℕ) (r : ℕ) (passed
 round_left more d weight r passed again left round =
     let here = standing (Round r) passed in
     by_test (owes_any (owed_at d here))
-    (λ b. IsLeftBy d weight (weight_left d weight here) (if b then StandsAt here else then_turning_at (turn_within more d) (next_phase d (Round r))))
+    (λ b. IsLeftBy d weight (weight_left d weight here) (if b then Goes here else then_turning (turn_within more d) (next_phase d (Round r))))
     (λ owes. refl)
     (λ none. ended_left more d weight r passed again left round none)
 

@@ -6,7 +6,7 @@ use Rattle.gm_base.specs.declared.edge.Edge.{Edge}
 use Rattle.gm_base.specs.Graph.{edge}
 use Rattle.gm_label.specs.Catalogues.{catalogue_of}
 use Rattle.gm_label.specs.Examples.{two_ranges, path_counts}
-use Rattle.gm_work.specs.declared.phase.Phase.TheVariants.{Round}
+use Rattle.gm_kernel.specs.declared.phase.Phase.TheVariants.{Round}
 use Rattle.gm_work.specs.Views.{JobView, state_in}
 use Rattle.gm_work.specs.Weights.{run_weight}
 use Rattle.gm_work.specs.HeldJobs.{grid_view}

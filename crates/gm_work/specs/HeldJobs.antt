@@ -9,7 +9,7 @@ use Rattle.gm_label.specs.declared.chunk.Overlay.{Overlay}
 use Rattle.gm_label.specs.Catalogues.{Catalogue, place_at, base_at}
 use Rattle.gm_label.specs.Overlays.{sources_under}
 use Rattle.gm_work.specs.JobStates.{JobContext, JobState, first_state, owes_any, turning_of}
-use Rattle.gm_work.specs.JobStates.Turning.{Goes, Ends}
+use Rattle.gm_kernel.specs.Standings.Turning.{Goes, Ends}
 use Rattle.gm_work.specs.Views.{JobView}
 
 -- what a job knows of a grid's chunks

@@ -5,7 +5,6 @@ use Rattle.std.specs.Str.{bytes_eq}
 use Rattle.gm_base.specs.declared.edge.Edge.{Edge}
 use Rattle.gm_base.specs.declared.job.Spec.{Spec}
 use Rattle.gm_base.specs.declared.job.Spec.TheVariants.{Bfs, Sssp, Wcc, Rank}
-use Rattle.gm_base.specs.declared.job.Outcome.{Outcome}
 use Rattle.gm_base.specs.declared.job.Outcome.TheVariants.{Done, Rounds}
 use Rattle.gm_base.specs.Dimensions.{Dimensions}
 use Rattle.gm_base.specs.Graph.{out_degree}
@@ -13,9 +12,11 @@ use Rattle.gm_rank.specs.declared.passes.TheConstants.{MAX_DEGREE}
 use Rattle.gm_kernel.specs.Kernels.{Kernel, kernel_of}
 use Rattle.gm_kernel.specs.Runs.{joined_at, most_rounds}
 use Rattle.gm_kernel.specs.Activity.{activity_of, active_at}
+use Rattle.gm_kernel.specs.Standings.{Turning, then_turning}
+use Rattle.gm_kernel.specs.Standings.Turning.{Goes, Ends}
 use Rattle.gm_active.specs.Needs.{needed_chunks, counted_chunks}
-use Rattle.gm_work.specs.declared.phase.Phase.{Phase}
-use Rattle.gm_work.specs.declared.phase.Phase.TheVariants.{Counting, Round}
+use Rattle.gm_kernel.specs.declared.phase.Phase.{Phase}
+use Rattle.gm_kernel.specs.declared.phase.Phase.TheVariants.{Counting, Round}
 
 -- what a job knows: what it computes, over how many vertices, and of each chunk the block and the sources as the job sees them
 pub record JobContext : Type 0 where
@@ -94,11 +95,6 @@ state_after_pass_in (Round r) k e chunk edges = record e { sums = sums_with k e.
 abbrev pub state_after_pass : JobContext → JobState → ℕ → List Edge → JobState
 state_after_pass k e chunk edges = state_after_pass_in e.phase k e chunk edges
 
--- what the end of a phase makes of a job: it goes on, or it ends
-pub data Turning : Type 0 where
-  Goes : JobState → Turning
-  Ends : Outcome → Turning
-
 -- whether a job is done after a round, counted from 1, by the values before and after it
 abbrev pub is_done_by : Spec → ℕ → List ℕ → List ℕ → Bool
 is_done_by (Bfs source bound) round before after = bytes_eq after before
@@ -108,7 +104,7 @@ is_done_by (Rank rounds) round before after = round == rounds
 
 -- after the counting the first round begins. After a round the sums are the values, and the job is done, or has made all its rounds,
 -- or begins the next one
-abbrev pub phase_end_in : Phase → JobContext → JobState → Turning
+abbrev pub phase_end_in : Phase → JobContext → JobState → Turning JobState
 phase_end_in (Counting r) k e = Goes (record e { phase = Round r; owed = needed_chunks_of k (r == 0) e.values e.values e.degrees })
 phase_end_in (Round r) k e =
     if is_done_by k.spec (r + 1) e.values e.sums then Ends (Done (r + 1) e.sums)
@@ -121,7 +117,7 @@ phase_end_in (Round r) k e =
       owed = needed_chunks_of k false e.values e.sums e.degrees;
     })
 
-abbrev pub phase_end_of : JobContext → JobState → Turning
+abbrev pub phase_end_of : JobContext → JobState → Turning JobState
 phase_end_of k e = phase_end_in e.phase k e
 
 -- whether some chunk is owed
@@ -133,11 +129,6 @@ abbrev pub phases_left : Spec → Phase → ℕ
 phases_left spec (Counting r) = most_rounds spec - r + 1
 phases_left spec (Round r) = most_rounds spec - r
 
--- a job that goes on is turned again
-abbrev pub then_turning : (JobState → Turning) → Turning → Turning
-then_turning again (Goes e) = again e
-then_turning again (Ends outcome) = Ends outcome
-
 -- where so many phases may end: as long as nothing is owed, the phase ends, and what it led to is turned again
 abbrev pub until_owed : {S T : Type 0} → (S → T) → (S → List Bool) → (S → T) → ((S → T) → T → T) → ℕ → S → T
 until_owed goes owed ended again zero s = goes s
@@ -145,8 +136,8 @@ until_owed goes owed ended again (suc more) s =
     if owes_any (owed s) then goes s
     else again (until_owed goes owed ended again more) (ended s)
 
-abbrev pub turning_within : ℕ → JobContext → JobState → Turning
+abbrev pub turning_within : ℕ → JobContext → JobState → Turning JobState
 turning_within phases k e = until_owed Goes (λ f. f.owed) (phase_end_of k) then_turning phases e
 
-abbrev pub turning_of : JobContext → JobState → Turning
+abbrev pub turning_of : JobContext → JobState → Turning JobState
 turning_of k e = turning_within (phases_left k.spec e.phase) k e

@@ -3,9 +3,9 @@ use Rattle.std.specs.Prelude.{◌≡◌, ℕ, ◌==◌, false, replicate}
 use Rattle.gm_base.specs.declared.job.Outcome.TheVariants.{Done as DoneRun, Rounds as RoundsRun}
 use Rattle.gm_base.specs.declared.job.Turned.{Turned}
 use Rattle.gm_base.specs.declared.job.Turned.TheVariants.{Owes, Done, Bound}
-use Rattle.gm_work.specs.declared.phase.Phase.TheVariants.{Counting, Round}
+use Rattle.gm_kernel.specs.declared.phase.Phase.TheVariants.{Counting, Round}
 use Rattle.gm_work.specs.JobStates.{JobContext, JobState, each_vertex, initial_values, carried_values, needed_chunks_of, phase_end_of}
-use Rattle.gm_work.specs.JobStates.Turning.{Goes, Ends}
+use Rattle.gm_kernel.specs.Standings.Turning.{Goes, Ends}
 
 -- what the end of one phase answers, by the entries before and after it: the job goes on, whether or not it owes a chunk, or it ended
 abbrev pub IsPhaseEnded : JobContext → JobState → Turned → JobState → Type 0

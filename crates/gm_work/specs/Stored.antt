@@ -8,8 +8,8 @@ use Rattle.gm_label.specs.Catalogues.{Catalogue, AreInRows}
 use Rattle.gm_label.specs.Overlays.{AreOverlays}
 use Rattle.gm_rank.specs.Ranks.{AreShares}
 use Rattle.gm_active.specs.Bits.{is_in}
-use Rattle.gm_work.specs.declared.phase.Phase.{Phase}
-use Rattle.gm_work.specs.declared.phase.Phase.TheVariants.{Counting, Round}
+use Rattle.gm_kernel.specs.declared.phase.Phase.{Phase}
+use Rattle.gm_kernel.specs.declared.phase.Phase.TheVariants.{Counting, Round}
 use Rattle.gm_work.specs.JobStates.{counts_degrees}
 use Rattle.gm_work.specs.HeldJobs.{HeldJob}
 

@@ -1,18 +1,18 @@
 -- A job's graph in chunks, and the job in the middle of a round over it, by its lone run alone.
-use Rattle.std.specs.Prelude.{◌≡◌, ℕ, ◌+◌, ◌-◌, ◌<◌, ◌≤◌, Bool, true, false, ◌==◌, if◌then◌else◌, List, [], ◌∷◌, length, flat_map, slice_set, All}
+use Rattle.std.specs.Prelude.{◌≡◌, ℕ, ◌+◌, ◌-◌, ◌<◌, ◌≤◌, ◌⊎◌, Bool, true, false, ◌==◌, if◌then◌else◌, List, [], ◌∷◌, length, flat_map, slice_set, All}
 use Rattle.std.specs.List.{list_any, range_with_len}
 use Rattle.gm_base.specs.declared.edge.Edge.{Edge}
-use Rattle.gm_base.specs.declared.job.Outcome.{Outcome}
 use Rattle.gm_base.specs.declared.limits.TheConstants.{MAX_EDGES, MAX_CHANGES}
 use Rattle.gm_base.specs.Dimensions.{AreDimensions}
 use Rattle.gm_base.specs.Graph.{HasEndsBelow, IsGraph, IsSameGraph, out_degree}
 use Rattle.gm_kernel.specs.Runs.{values_after, most_rounds, is_done_after, lone_run, NoneBefore}
+use Rattle.gm_kernel.specs.Standings.{Standing, Turning, then_turning}
 use Rattle.gm_active.specs.Bits.{is_in}
 use Rattle.gm_active.specs.Needs.{first_destination_of, end_destination_of}
-use Rattle.gm_work.specs.declared.phase.Phase.{Phase}
-use Rattle.gm_work.specs.declared.phase.Phase.TheVariants.{Counting, Round}
-use Rattle.gm_work.specs.JobStates.{JobContext, JobState, kernel_in, each_vertex, counts_degrees, carried_values, needed_chunks_of, counted_chunks_of, degrees_with, sums_with, owes_any, phases_left, until_owed, Turning}
-use Rattle.gm_work.specs.JobStates.Turning.{Goes, Ends}
+use Rattle.gm_kernel.specs.declared.phase.Phase.{Phase}
+use Rattle.gm_kernel.specs.declared.phase.Phase.TheVariants.{Counting, Round}
+use Rattle.gm_work.specs.JobStates.{JobContext, JobState, kernel_in, each_vertex, counts_degrees, carried_values, needed_chunks_of, counted_chunks_of, degrees_with, sums_with, owes_any, phases_left, until_owed}
+use Rattle.gm_kernel.specs.Standings.Turning.{Goes, Ends}
 
 -- a job over its view of the graph: all edges, and of each chunk the content as the job sees it
 pub record JobView : Type 0 where
@@ -30,11 +30,6 @@ pub record IsCutIntoChunks (d : JobView) : Type 0 where
   pub sources : (c : ℕ) → All (λ e. list_any (λ s. s == e.from) (d.context.sources_at c) ≡ true) (d.content_at c)
   pub columns : (c : ℕ) → All (λ e. (first_destination_of d.context.dimensions (d.context.block_at c) ≤ e.to)
       × (e.to < end_destination_of d.context.dimensions (d.context.block_at c))) (d.content_at c)
-
--- where a job stands: its phase, and the chunks that it has passed in it, the last one first
-pub record Standing : Type 0 where
-  pub phase : Phase
-  pub passed : List ℕ
 
 -- the values of the lone run after so many rounds
 abbrev pub values_at : JobView → ℕ → List ℕ
@@ -59,10 +54,6 @@ owed_at d s = owed_after (needed_in d s.phase) s.passed
 
 abbrev pub first_standing : JobView → Standing
 first_standing d = record { phase = if counts_degrees d.context.spec then Counting 0 else Round 0; passed = [] }
-
--- one chunk more
-abbrev pub with_passed : Standing → ℕ → Standing
-with_passed s c = record s { passed = c ∷ s.passed }
 
 -- out-degrees over the passed chunks, and sums of their gifts
 abbrev pub degrees_after : JobView → List ℕ → List ℕ
@@ -113,32 +104,28 @@ pub record IsMidRound (d : JobView) (s : Standing) (e : JobState) : Type 0 where
   pub passed : WerePassed (needed_in d s.phase) s.passed
   pub state : e ≡ state_at d s
 
--- where a job stands after its turn, or what became of it
-pub data StandingTurn : Type 0 where
-  StandsAt : Standing → StandingTurn
-  EndsWith : Outcome → StandingTurn
-
 -- the next phase of the lone run, or its end
-abbrev pub next_phase : JobView → Phase → StandingTurn
-next_phase d (Counting r) = StandsAt (record { phase = Round r; passed = [] })
+abbrev pub next_phase : JobView → Phase → Turning Standing
+next_phase d (Counting r) = Goes (record { phase = Round r; passed = [] })
 next_phase d (Round r) =
-    if is_done_after d.context.spec d.context.dimensions.n d.edges (r + 1) then EndsWith (lone_run d.context.spec d.context.dimensions.n d.edges)
-    else if r + 1 == most_rounds d.context.spec then EndsWith (lone_run d.context.spec d.context.dimensions.n d.edges)
-    else StandsAt (record { phase = Round (r + 1); passed = [] })
+    if is_done_after d.context.spec d.context.dimensions.n d.edges (r + 1) then Ends (lone_run d.context.spec d.context.dimensions.n d.edges)
+    else if r + 1 == most_rounds d.context.spec then Ends (lone_run d.context.spec d.context.dimensions.n d.edges)
+    else Goes (record { phase = Round (r + 1); passed = [] })
 
-abbrev pub then_turning_at : (Standing → StandingTurn) → StandingTurn → StandingTurn
-then_turning_at again (StandsAt s) = again s
-then_turning_at again (EndsWith outcome) = EndsWith outcome
+abbrev pub turn_within : ℕ → JobView → Standing → Turning Standing
+turn_within phases d s = until_owed Goes (owed_at d) (λ t. next_phase d t.phase) then_turning phases s
 
-abbrev pub turn_within : ℕ → JobView → Standing → StandingTurn
-turn_within phases d s = until_owed StandsAt (owed_at d) (λ t. next_phase d t.phase) then_turning_at phases s
-
-abbrev pub turn_at : JobView → Standing → StandingTurn
+abbrev pub turn_at : JobView → Standing → Turning Standing
 turn_at d s = turn_within (phases_left d.context.spec s.phase) d s
 
 -- a job turned, by where it stands: it is in the middle of a later phase, or it has ended as its lone run
-abbrev pub IsTurnedWell : JobView → StandingTurn → Turning → Type 0
-IsTurnedWell d (StandsAt s) (Goes e) = IsMidRound d s e × (owes_any e.owed ≡ true)
-IsTurnedWell d (EndsWith outcome) (Ends other) = (other ≡ outcome) × (outcome ≡ lone_run d.context.spec d.context.dimensions.n d.edges)
-IsTurnedWell d (StandsAt s) (Ends outcome) = ⊥
-IsTurnedWell d (EndsWith outcome) (Goes e) = ⊥
+abbrev pub IsTurnedWell : JobView → Turning Standing → Turning JobState → Type 0
+IsTurnedWell d (Goes s) (Goes e) = IsMidRound d s e × (owes_any e.owed ≡ true)
+IsTurnedWell d (Ends outcome) (Ends other) = (other ≡ outcome) × (outcome ≡ lone_run d.context.spec d.context.dimensions.n d.edges)
+IsTurnedWell d (Goes s) (Ends outcome) = ⊥
+IsTurnedWell d (Ends outcome) (Goes e) = ⊥
+
+-- a turn leads to where the job stood, or to a later phase with nothing passed in it, or it ends the job
+abbrev pub LeadsOn : JobView → Standing → Turning Standing → Type 0
+LeadsOn d s (Goes t) = (t ≡ s) ⊎ ((t.passed ≡ []) × (phases_left d.context.spec t.phase < phases_left d.context.spec s.phase))
+LeadsOn d s (Ends outcome) = Unit {0}

@@ -3,11 +3,12 @@ use Rattle.std.specs.Prelude.{◌≡◌, ℕ, zero, suc, ◌+◌, ◌-◌, Bool,
 use Rattle.gm_base.specs.declared.job.Outcome.{Outcome}
 use Rattle.gm_base.specs.declared.job.Outcome.TheVariants.{Done, Rounds, Read, Changed, Memory}
 use Rattle.gm_kernel.specs.Runs.{lone_run}
-use Rattle.gm_work.specs.declared.phase.Phase.{Phase}
-use Rattle.gm_work.specs.declared.phase.Phase.TheVariants.{Counting, Round}
+use Rattle.gm_kernel.specs.declared.phase.Phase.{Phase}
+use Rattle.gm_kernel.specs.declared.phase.Phase.TheVariants.{Counting, Round}
+use Rattle.gm_kernel.specs.Standings.{Standing, Turning}
+use Rattle.gm_kernel.specs.Standings.Turning.{Goes, Ends}
 use Rattle.gm_work.specs.JobStates.{counts_degrees}
-use Rattle.gm_work.specs.Views.{JobView, Standing, StandingTurn, needed_in, owed_at}
-use Rattle.gm_work.specs.Views.StandingTurn.{StandsAt, EndsWith}
+use Rattle.gm_work.specs.Views.{JobView, needed_in, owed_at}
 
 -- the weights of the marked chunks, counted from this one on
 abbrev pub weigh_from : (ℕ → ℕ) → ℕ → List Bool → ℕ
@@ -48,6 +49,6 @@ abbrev pub weight_left : JobView → (ℕ → ℕ) → Standing → ℕ
 weight_left d weight s = weigh weight (owed_at d s) + later_weight d weight s.phase
 
 -- after a turn from where so much was to be passed, the same is; nothing was, where the job ended
-abbrev pub IsLeftBy : JobView → (ℕ → ℕ) → ℕ → StandingTurn → Type 0
-IsLeftBy d weight left (StandsAt s) = weight_left d weight s ≡ left
-IsLeftBy d weight left (EndsWith outcome) = left ≡ 0
+abbrev pub IsLeftBy : JobView → (ℕ → ℕ) → ℕ → Turning Standing → Type 0
+IsLeftBy d weight left (Goes s) = weight_left d weight s ≡ left
+IsLeftBy d weight left (Ends outcome) = left ≡ 0

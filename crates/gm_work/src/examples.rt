@@ -5,12 +5,12 @@ ghost use Rattle.std.specs.Prelude.{◌≡◌, [], ◌∷◌, true, false};
 ghost use Rattle.gm_base.specs.Examples.{path_with_shortcut, joined_backwards};
 ghost use Rattle.gm_label.specs.Catalogues.{catalogue_of};
 ghost use Rattle.gm_label.specs.Examples.{two_ranges, path_counts};
-ghost use Rattle.gm_work.specs.declared.phase.Phase.{Phase as Phases};
+ghost use Rattle.gm_kernel.specs.declared.phase.Phase.{Phase as Phases};
 ghost use Rattle.gm_work.specs.Examples.{over_path, over_backwards, passes_of, sums_of};
 ghost use Rattle.gm_work.specs.Views.{needed_in};
 
-use crate::Phase;
 use gm_base::{Spec, TOP};
+use gm_kernel::Phase;
 
 /// Levels from vertex 0 pass 0>1 and 0>2, then 1>2 and 2>3; distances pass 2>3 once more, in a round of its own.
 pub fn passes_of_paths()

@@ -1,5 +1,5 @@
 //! Laws of a job over chunks. They are said of any view that is cut into chunks, whatever the chunks' contents and sources.
-#![tactic(auto, using(crate::proofs::Rounds::closes, crate::proofs::MidRound::begins, crate::proofs::MidRound::passes, crate::proofs::Turns::turns, crate::proofs::Turns::goes_to_later, crate::proofs::Standings::determined, crate::proofs::Standings::owed, crate::proofs::Standings::owed_later, crate::proofs::Standings::owed_is_new, crate::proofs::Standings::owed_is_needed, crate::proofs::Grids::grid_is_cut))]
+#![tactic(auto, using(crate::proofs::Rounds::closes, crate::proofs::MidRound::begins, crate::proofs::MidRound::passes, crate::proofs::Turns::turns, crate::proofs::Turns::goes_to_later, crate::proofs::LaterPhases::leads_on, crate::proofs::Standings::determined, crate::proofs::Standings::owed, crate::proofs::Standings::owed_later, crate::proofs::Standings::owed_is_new, crate::proofs::Standings::owed_is_needed, crate::proofs::Grids::grid_is_cut))]
 
 ghost use Rattle.std.specs.Prelude.{◌≡◌, ℕ, ◌+◌, ◌*◌, ◌<◌, ◌≤◌, ◌==◌, ◌&&◌, not, true, false, List, length};
 ghost use Rattle.std.specs.List.{list_any};
@@ -10,14 +10,15 @@ ghost use Rattle.gm_base.specs.declared.limits.TheConstants.{MAX_EDGES};
 ghost use Rattle.gm_base.specs.Dimensions.{AreDimensions};
 ghost use Rattle.gm_kernel.specs.Runs.{most_rounds};
 ghost use Rattle.gm_label.specs.Catalogues.{Catalogue, IsOver};
+ghost use Rattle.gm_kernel.specs.Standings.{Standing, with_passed};
 ghost use Rattle.gm_active.specs.Bits.{is_in};
 ghost use Rattle.gm_work.specs.JobStates.{JobContext, JobState, first_state, state_after_pass, owes_any, phases_left, turning_of};
-ghost use Rattle.gm_work.specs.JobStates.Turning.{Goes};
-ghost use Rattle.gm_work.specs.Views.{JobView, IsCutIntoChunks, Standing, values_at, needed_in, owed_after, owed_at, sums_after, first_standing, with_passed, WerePassed, IsMidRound, turn_at, IsTurnedWell};
+ghost use Rattle.gm_kernel.specs.Standings.Turning.{Goes};
+ghost use Rattle.gm_work.specs.Views.{JobView, IsCutIntoChunks, values_at, needed_in, owed_after, owed_at, sums_after, first_standing, WerePassed, IsMidRound, turn_at, IsTurnedWell, LeadsOn};
 ghost use Rattle.gm_work.specs.Weights.{run_weight, weight_left, IsLeftBy};
 ghost use Rattle.gm_work.specs.HeldJobs.{grid_view};
 
-use crate::Phase;
+use gm_kernel::Phase;
 
 /// A law: a round over the needed chunks alone, in any order, is the round over all edges of the view.
 pub fn needed_chunks_make_the_round()
@@ -53,6 +54,11 @@ pub fn turns_end()
     ensures { (k : JobContext) (e f : JobState)
         → owes_any e.owed ≡ false → turning_of k e ≡ Goes f → owes_any f.owed ≡ true
         → phases_left k.spec f.phase < phases_left k.spec e.phase }
+{}
+
+/// A law: a turn leads to where the job stood, or to a phase with fewer before it, in which nothing is passed yet.
+pub fn turns_lead_on()
+    ensures { (d : JobView) (s : Standing) → LeadsOn d s (turn_at d s) }
 {}
 
 /// A law: in the middle of a phase everything is determined by where the job stands, first of all what it owes.

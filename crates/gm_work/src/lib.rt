@@ -8,10 +8,8 @@ pub mod laws;
 mod marks;
 mod needs;
 mod passes;
-mod phase;
 #[cfg(test)]
 mod tests;
 mod work;
 
-pub use phase::Phase;
 pub use work::Work;

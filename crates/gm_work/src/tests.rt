@@ -7,8 +7,9 @@ ghost use Rattle.gm_label.specs.Chunks.{chunks_of};
 ghost use Rattle.gm_label.specs.Catalogues.{unlabelled};
 ghost use Rattle.gm_label.specs.Examples.{two_ranges, path_counts};
 
-use crate::{Phase, Work};
+use crate::Work;
 use gm_base::{ChunkCopy, Edge, Edges, Key, Shape, Sources, Spec, Tag, Turned};
+use gm_kernel::Phase;
 use gm_label::{Catalogue, Label, Overlay, Overlays};
 use std::alloc::Global;
 use std::sync::Arc;

@@ -11,7 +11,6 @@ ghost use Rattle.gm_work.specs.HeldJobs.{admitted_job, context_in, context_of, I
 ghost use Rattle.gm_work.specs.Stored.{round_of_phase};
 ghost use Rattle.gm_work.specs.Steps.{IsPhaseEnded, unbegun_state, with_round, with_next_round};
 
-use crate::Phase;
 use crate::keys::key_of;
 use crate::kinds::{begin_values, carry_values, counts_degrees, is_done, most_rounds, share_count};
 use crate::marks::mark_round;
@@ -19,6 +18,7 @@ use crate::needs::owe_needed;
 use crate::passes::{count_edges, join_gifts};
 use gm_active::{Active, ChunkSet, owed_in_counting};
 use gm_base::{ChunkCopy, Key, Memory, Spec, Turned, Values};
+use gm_kernel::Phase;
 use gm_label::{Catalogue, Overlays};
 use std::alloc::Global;
 use std::marker::Model;

@@ -1,4 +1,4 @@
-//! The program of `graphm` once more, for a stored run that ends with 0; that of `graphm` ends with 1.
+//! The program of `graphm` once more, for a stored `info`, which ends with 0; the run of `graphm` ends with 1.
 #![tactic(auto)]
 
 use std::process::ExitCode;

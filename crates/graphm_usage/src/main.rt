@@ -1,4 +1,4 @@
-//! The program of `graphm` once more, for a stored run with an empty word among its words: it ends with 2.
+//! The program of `graphm` once more, for a stored run with a surplus word: it ends with 2.
 #![tactic(auto)]
 
 use std::process::ExitCode;

@@ -9,9 +9,9 @@ use Rattle.gm_versions.specs.Snapshots.{overlays_of}
 use Rattle.gm_scripts.specs.ScriptJobs.{job_at, snapshot_at}
 use Rattle.gm_scripts.specs.ScriptJobsRules.{makes_round, content}
 use Rattle.gm_core.specs.SnapshotViews.{job_view}
-use Rattle.gm_core.specs.JobWorks.{works_of}
+use Rattle.gm_core.specs.ScriptWorks.{works_of}
 use Rattle.gm_core.proofs.SnapshotGraphs.{job_is_cut}
-use Rattle.gm_core.proofs.Lawful.{needed_within, unpassed, turned_as, left_by_turn, key_at-chunk, some_round}
+use Rattle.gm_core.proofs.Lawful.{needed_within, unpassed, turned_as, turned_on, left_by_turn, key_at-chunk, some_round}
 use Rattle.gm_core.proofs.laws.works_are_lawful.Goals as goal
 
 pub returns : goal.returns
@@ -29,11 +29,13 @@ returns c cat edges entries over =
           };
       turns = λ n s e here.
           turned_as cat edges entries n (turn_at (view n) s) (turning_of (view n).context e) here.number (c.turns.ensures (view n) s e (job_is_cut cat edges entries n over here.number) here.mid);
+      turns_on = λ n s e here. turned_on cat edges entries n s (turn_at (view n) s) (c.turns_lead_on.ensures (view n) s);
       determined = λ n s e f one other. c.determined.ensures.state (view n) s e f one.mid other.mid;
       owed = λ n x s e here. ap (λ (marks : List Bool). is_in marks x) (c.determined.ensures.owed (view n) s e here.mid);
       owed_after = λ n x y s. owed.after (view n) s x y;
       owed_is_new = λ n x s owes. unpassed _ _ (owed.new (view n) s x) owes;
       owed_is_chunk = λ n x s owes. needed_within (view n) s.phase x (owed.needed (view n) s x owes);
+      chunk_in_block = over.catalogue.in_range;
       key_of_chunk = λ n x s. key_at-chunk (overlays_of cat (snapshot_at entries n)) x;
       left_at_first = λ n within.
           let some = some_round (job_at entries n).spec (makes_round cat edges entries n over within) in

@@ -9,8 +9,8 @@ use Rattle.gm_label.specs.Overlays.{key_at}
 use Rattle.gm_source.specs.Fetches.{TellsGrid}
 use Rattle.gm_grid.specs.GridBytes.{edges_in}
 use Rattle.gm_base.specs.declared.edge.Edge.{Edge}
-use Rattle.gm_work.specs.declared.phase.Phase.{Phase}
-use Rattle.gm_work.specs.declared.phase.Phase.TheVariants.{Counting, Round}
+use Rattle.gm_kernel.specs.declared.phase.Phase.{Phase}
+use Rattle.gm_kernel.specs.declared.phase.Phase.TheVariants.{Counting, Round}
 use Rattle.gm_work.specs.JobStates.{JobState, JobContext, state_after_pass_in}
 use Rattle.gm_work.specs.HeldJobs.{HeldJob, context_in}
 use Rattle.gm_outside.specs.Causes.{counted_times}

@@ -12,6 +12,7 @@ use Rattle.gm_source.specs.OpeningsRules.{opens_by-then, opens_by-served, opens_
 use Rattle.gm_source.proofs.Told.{told-weaker}
 use Rattle.gm_source.proofs.Heads.{few_chunks, refused_chunks}
 use Rattle.gm_source.proofs.LabelledChunks.{labelled-none, planned-chunks}
+use Rattle.gm_source.proofs.RefusalReads.{head-few, index-few}
 use Rattle.gm_source.proofs.opening.read_plan.Goals as goal
 
 -- a call after one that was served
@@ -107,3 +108,36 @@ returns-clause-opens g c =
     (told-weaker _ name _ _
     (λ bytes index. refused_by_chunks size bytes e index.head.taken index.taken (ap (refusal_by_chunks size) (sym index.is ∙ sym c.counts.ensures) ∙ refused))
     c.in_ok-index.ensures.index)))
+
+pub returns-in_err-shape-clause-few_reads : goal.returns-in_err-shape-clause-few_reads
+returns-in_err-shape-clause-few_reads g c =
+    let unread = c.file_size.ensures.unread in
+    let most = (c.read_shape.ensures.opens c.args.chunk_size).frame.reads in
+    head-few _ c.args.name.now (g.D.Depot.state c.args.depot.now) (g.D.Depot.state c.read_shape.new.depot) c.in_ok-size.size c.in_ok-size.ensures.size (omega (arith, unread, most)) (λ short. c.read_shape.ensures.short short ∙ unread)
+
+pub returns-in_err-index-clause-few_reads : goal.returns-in_err-index-clause-few_reads
+returns-in_err-index-clause-few_reads g c =
+    let kept = (c.file_size.ensures.opens c.args.chunk_size).frame.files in
+    let unread = c.file_size.ensures.unread in
+    let first = (c.read_shape.ensures.opens c.args.chunk_size).frame.reads in
+    let second = (c.read_counts.ensures.opens c.args.chunk_size).frame.reads in
+    index-few _ c.args.name.now (g.D.Depot.state c.args.depot.now) (g.D.Depot.state c.read_counts.new.depot) c.in_ok-shape.shape
+    (subst (λ (f : Option Files). IsTold f c.args.name.now (HasHead c.in_ok-shape.shape)) kept c.in_ok-shape.ensures.head) (omega (arith, unread, first, second))
+
+pub returns-in-Ok-clause-few_reads : goal.returns-in-Ok-clause-few_reads
+returns-in-Ok-clause-few_reads g c =
+    let kept = (c.file_size.ensures.opens c.args.chunk_size).frame.files in
+    let unread = c.file_size.ensures.unread in
+    let first = (c.read_shape.ensures.opens c.args.chunk_size).frame.reads in
+    let second = (c.read_counts.ensures.opens c.args.chunk_size).frame.reads in
+    index-few _ c.args.name.now (g.D.Depot.state c.args.depot.now) (g.D.Depot.state c.read_counts.new.depot) c.in_ok-shape.shape
+    (subst (λ (f : Option Files). IsTold f c.args.name.now (HasHead c.in_ok-shape.shape)) kept c.in_ok-shape.ensures.head) (omega (arith, unread, first, second))
+
+pub returns-clause-few_reads : goal.returns-clause-few_reads
+returns-clause-few_reads g c =
+    let kept = (c.file_size.ensures.opens c.args.chunk_size).frame.files in
+    let unread = c.file_size.ensures.unread in
+    let first = (c.read_shape.ensures.opens c.args.chunk_size).frame.reads in
+    let second = (c.read_counts.ensures.opens c.args.chunk_size).frame.reads in
+    index-few _ c.args.name.now (g.D.Depot.state c.args.depot.now) (g.D.Depot.state c.read_counts.new.depot) c.in_ok-shape.shape
+    (subst (λ (f : Option Files). IsTold f c.args.name.now (HasHead c.in_ok-shape.shape)) kept c.in_ok-shape.ensures.head) (omega (arith, unread, first, second))

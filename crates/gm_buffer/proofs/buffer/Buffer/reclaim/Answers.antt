@@ -1,5 +1,5 @@
 use Rattle.std.proofs.Common.{◌∙◌, sym}
-use Rattle.gm_buffer.proofs.Keeping.{none_at, fewer, gone, room, passes-none}
+use Rattle.gm_buffer.proofs.Keeping.{none_at, fewer, gone, room, none_left, passes-none}
 use Rattle.gm_buffer.proofs.buffer.Buffer.reclaim.Goals as goal
 
 pub returns-in_err-place-clause-passes : goal.returns-in_err-place-clause-passes
@@ -30,3 +30,7 @@ pub returns-else-leave-clause-passes : goal.returns-else-leave-clause-passes
 returns-else-leave-clause-passes c =
     (fewer c.args.key c.args.job c.self.inside.slots.items c.args.self.now c.in_ok-place.place c.index_mut.result.now c.leave.new.self
     (record { place = cc c.in_ok-place.was; here = c.index_mut.ensures.value; kept = c.self.invariant; left = c.leave.ensures.left; view = c.self.view_is }) (sym c.leave.ensures.last ∙ c.if-leave.false)).passes
+
+pub returns-then-leave-clause-last : goal.returns-then-leave-clause-last
+returns-then-leave-clause-last c =
+    rw c.remove.ensures.items (none_left c.args.key c.self.inside.slots.items c.in_ok-place.place c.leave.new.self c.into_edges.result (cc c.in_ok-place.was) c.self.invariant)

@@ -5,6 +5,7 @@ use Rattle.std.proofs.lemmas.Result.{err_from_is_err_and}
 use Rattle.gm_source.specs.Openings.{chunk_reads, reads_before}
 use Rattle.gm_source.specs.OpeningsRules.{opens_by-more, opens_by-served}
 use Rattle.gm_source.proofs.LabelledChunks.{labels-next, labels-refused}
+use Rattle.gm_source.proofs.RefusalReads.{labels-few}
 use Rattle.gm_source.proofs.fetching.Fetcher.label_chunks.Goals as goal
 
 pub loop-chunk-preserved : goal.loop-chunk-preserved
@@ -27,3 +28,11 @@ returns-clause-opens g c size told =
     let k = c.loop-chunk.chunk in
     opens_by-more _ _ (reads_before places k) (sum_by chunk_reads places) size c.args.name.now _ (sum_by-take-le chunk_reads places k)
     (opens_by-served _ _ (reads_before places k) size c.args.name.now _ c.loop-chunk.invariant.frame c.loop-chunk.invariant.served)
+
+pub returns-in_err-label_chunk-clause-few_reads : goal.returns-in_err-label_chunk-clause-few_reads
+returns-in_err-label_chunk-clause-few_reads g c size told =
+    labels-few _ _ (g.D.Depot.state c.label_chunk.new.depot) size c.args.name.now _ _ c.loop-chunk.chunk c.loop-chunk.invariant c.label_chunk.ensures.frame.reads told
+
+pub returns-clause-few_reads : goal.returns-clause-few_reads
+returns-clause-few_reads g c size told =
+    labels-few _ _ (g.D.Depot.state c.loop-chunk.depot) size c.args.name.now _ _ c.loop-chunk.chunk c.loop-chunk.invariant (omega arith) told

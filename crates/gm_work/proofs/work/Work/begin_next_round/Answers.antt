@@ -3,7 +3,7 @@ use Rattle.std.specs.Arc.{arc_value}
 use Rattle.std.specs.Vec.{with_items}
 use Rattle.std.proofs.lemmas.List.{with_items_is}
 use Rattle.gm_kernel.specs.Runs.{most_rounds}
-use Rattle.gm_work.specs.declared.phase.Phase.TheVariants.{Round}
+use Rattle.gm_kernel.specs.declared.phase.Phase.TheVariants.{Round}
 use Rattle.gm_work.specs.Stored.{held_job}
 use Rattle.gm_work.specs.JobStates.{carried_values}
 use Rattle.gm_work.specs.HeldJobs.{context_in}

@@ -2,7 +2,7 @@ use Rattle.std.proofs.Common.{◌<◌, length, ap, ◌∙◌}
 use Rattle.std.specs.Arc.{arc_value}
 use Rattle.std.proofs.lemmas.List.{with_items_is}
 use Rattle.gm_kernel.specs.Runs.{most_rounds}
-use Rattle.gm_work.specs.declared.phase.Phase.TheVariants.{Round}
+use Rattle.gm_kernel.specs.declared.phase.Phase.TheVariants.{Round}
 use Rattle.gm_work.specs.Stored.{held_job}
 use Rattle.gm_work.proofs.Beginning.{are_shares-same, owed-from, stored-owing}
 use Rattle.gm_work.proofs.work.Work.begin_round.Goals as goal

@@ -4,8 +4,8 @@ use Rattle.std.proofs.lemmas.List.FromFn.{length-map-range_with_len}
 use Rattle.gm_label.specs.Catalogues.{Catalogue}
 use Rattle.gm_label.specs.Overlays.{sources_under}
 use Rattle.gm_active.specs.Needs.{has_source, counted_chunks}
-use Rattle.gm_work.specs.declared.phase.Phase.{Phase}
-use Rattle.gm_work.specs.declared.phase.Phase.TheVariants.{Counting}
+use Rattle.gm_kernel.specs.declared.phase.Phase.{Phase}
+use Rattle.gm_kernel.specs.declared.phase.Phase.TheVariants.{Counting}
 use Rattle.gm_work.specs.Stored.{held_job, AreSharesIn}
 use Rattle.gm_work.proofs.Beginning.{stored-owing}
 use Rattle.gm_work.proofs.work.Work.owe_counted.Goals as goal

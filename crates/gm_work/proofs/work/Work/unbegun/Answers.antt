@@ -4,7 +4,7 @@ use Rattle.std.specs.Vec.{with_items}
 use Rattle.std.proofs.lemmas.List.{with_items_is, length-replicate}
 use Rattle.gm_base.specs.Dimensions.{Dimensions, AreDimensions}
 use Rattle.gm_label.specs.Catalogues.{Catalogue, AreInRows}
-use Rattle.gm_work.specs.declared.phase.Phase.TheVariants.{Counting}
+use Rattle.gm_kernel.specs.declared.phase.Phase.TheVariants.{Counting}
 use Rattle.gm_work.specs.Stored.{held_job}
 use Rattle.gm_work.proofs.Admitting.{unbegun-is}
 use Rattle.gm_work.proofs.work.Work.unbegun.Goals as goal

@@ -1,0 +1,119 @@
+//! Laws of journals of the jobs of a script over a grid.
+
+ghost use Rattle.std.specs.Prelude.{◌≡◌, ◌≤◌, ℕ, true, List, length};
+ghost use Rattle.gm_base.specs.declared.edge.Edge.{Edge};
+ghost use Rattle.gm_events.specs.declared.event.Event.{Event};
+ghost use Rattle.gm_events.specs.declared.event.Event.TheVariants.{Passed};
+ghost use Rattle.gm_label.specs.Catalogues.{Catalogue};
+ghost use Rattle.gm_machine.specs.Setups.{IsMidwayEntry};
+ghost use Rattle.gm_machine.specs.Machine.{Miss, IsLegal, may, scene_of};
+ghost use Rattle.gm_machine.specs.Promises.{AllStages, IsMidwayOrLone, Apart, keys_of, AreHeldForRiders, IsNew, most_visits};
+ghost use Rattle.gm_machine.specs.Plans.{IsPlanned};
+ghost use Rattle.gm_machine.specs.Promises.{BeginsPlan, HasPlannedOutcomes, IsAtEnd, IsWholePlan};
+ghost use Rattle.gm_scripts.specs.ScriptJobs.{IsScriptOverGrid};
+ghost use Rattle.gm_core.specs.ScriptWorks.{IsJobMidRound, works_of};
+ghost use Rattle.gm_core.specs.ScriptCases.{script_setup};
+
+use crate::laws::works_are_lawful;
+use gm_jobs::Line;
+use gm_machine::laws as machine;
+use gm_machine::laws::LawfulJobs;
+
+/// The jobs of a script over a grid, for laws alone.
+pub struct ScriptJobs;
+
+impl LawfulJobs for ScriptJobs {
+    ghost use Rattle.gm_work.specs.JobStates.{JobState};
+    ghost use Rattle.gm_core.specs.ScriptWorks.{IsJobMidRound, works_of};
+    ghost use Rattle.gm_core.specs.ScriptCases.{ScriptCase, jobs_are_many};
+
+    ghost State = { JobState };
+
+    ghost Case = { ScriptCase };
+
+    ghost script = { λ case. case.entries };
+
+    ghost works = { λ case. works_of case.cat case.edges case.entries };
+
+    ghost IsMidway = { λ case. IsJobMidRound case.cat case.edges case.entries };
+
+    ghost many = { jobs_are_many };
+
+    ghost lawful = { λ case. case.lawful };
+}
+
+/// A law: each job of a legal journal that runs is in the middle of a phase, and each that ended by itself has its lone run.
+pub fn jobs_are_midway_or_lone()
+    ensures { (cat : Catalogue) (edges : List Edge) (entries : List Line) (journal : List Event)
+        → IsScriptOverGrid cat edges entries → IsLegal (script_setup cat edges entries) journal
+        → let IsMidway = IsMidwayEntry (IsJobMidRound cat edges entries) in
+        AllStages (IsMidwayOrLone IsMidway (works_of cat edges entries).lone)
+        (scene_of (script_setup cat edges entries) journal).jobs }
+{
+    works_are_lawful();
+    machine::every_job_is_sound::<ScriptJobs>();
+}
+
+/// A law: no legal journal has more visits than its jobs have phases, times the chunks.
+pub fn visits_are_bounded()
+    ensures { (cat : Catalogue) (edges : List Edge) (entries : List Line) (journal : List Event)
+        → IsScriptOverGrid cat edges entries → IsLegal (script_setup cat edges entries) journal
+        → length (scene_of (script_setup cat edges entries) journal).visits
+        ≤ most_visits (works_of cat edges entries) }
+{
+    works_are_lawful();
+    machine::visits_are_bounded::<ScriptJobs>();
+}
+
+/// A law: no key has two copies, and a copy is held only for jobs that run, have its key and still owe the visited chunk.
+pub fn copies_are_held_for_riders()
+    ensures once { (cat : Catalogue) (edges : List Edge) (entries : List Line) (journal : List Event)
+        → IsScriptOverGrid cat edges entries → IsLegal (script_setup cat edges entries) journal
+        → Apart (keys_of (scene_of (script_setup cat edges entries) journal).held) }
+    ensures riders { (cat : Catalogue) (edges : List Edge) (entries : List Line) (journal : List Event)
+        → IsScriptOverGrid cat edges entries → IsLegal (script_setup cat edges entries) journal
+        → AreHeldForRiders (script_setup cat edges entries)
+        (scene_of (script_setup cat edges entries) journal) }
+{
+    works_are_lawful();
+    machine::copies_are_held_for_riders::<ScriptJobs>();
+}
+
+/// A law: where a job may pass a chunk, it hasn't passed this chunk in its phase.
+pub fn chunks_are_passed_once()
+    ensures { (cat : Catalogue) (edges : List Edge) (entries : List Line) (journal : List Event)
+        → (job chunk : ℕ) → IsScriptOverGrid cat edges entries
+        → IsLegal (script_setup cat edges entries) journal
+        → may (script_setup cat edges entries) (scene_of (script_setup cat edges entries) journal)
+        (Passed job chunk) ≡ true
+        → AllStages (IsNew job chunk) (scene_of (script_setup cat edges entries) journal).jobs }
+{
+    works_are_lawful();
+    machine::chunks_are_passed_once::<ScriptJobs>();
+}
+
+/// A law: whatever the order of passes, the visits of a planned journal with their riders and keys are those that the plan of its
+/// misses begins with. Each job that has ended has its outcome there. Where every entry is in, no visit is open and no job runs,
+/// they are all of the plan.
+pub fn journals_follow_the_schedule()
+    ensures visits { (cat : Catalogue) (edges : List Edge) (entries : List Line) (journal : List Event)
+        → (more : List Miss) → IsScriptOverGrid cat edges entries
+        → IsPlanned (script_setup cat edges entries) journal
+        → BeginsPlan (script_setup cat edges entries) more
+        (scene_of (script_setup cat edges entries) journal) }
+    ensures outcomes { (cat : Catalogue) (edges : List Edge) (entries : List Line) (journal : List Event)
+        → (more : List Miss) → IsScriptOverGrid cat edges entries
+        → IsPlanned (script_setup cat edges entries) journal
+        → HasPlannedOutcomes (script_setup cat edges entries) more
+        (scene_of (script_setup cat edges entries) journal) }
+    ensures end { (cat : Catalogue) (edges : List Edge) (entries : List Line) (journal : List Event)
+        → (more : List Miss) → IsScriptOverGrid cat edges entries
+        → IsPlanned (script_setup cat edges entries) journal
+        → IsAtEnd (script_setup cat edges entries)
+        (scene_of (script_setup cat edges entries) journal)
+        → IsWholePlan (script_setup cat edges entries) more
+        (scene_of (script_setup cat edges entries) journal) }
+{
+    works_are_lawful();
+    machine::visits_are_planned::<ScriptJobs>();
+}

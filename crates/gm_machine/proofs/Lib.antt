@@ -1,0 +1,9 @@
+pub mod Bounds
+pub mod Following
+pub mod Held
+pub mod InVisits
+pub mod Instance
+pub mod Lists
+pub mod Planning
+pub mod Soundness
+pub mod Theorems

@@ -1,0 +1,6 @@
+pub mod Examples
+pub mod JobWorks
+pub mod Machine
+pub mod Plans
+pub mod Promises
+pub mod Setups

@@ -1,0 +1,88 @@
+//! What holds of every legal journal, and of every planned one, whatever the jobs compute.
+
+ghost use Rattle.std.specs.Prelude.{◌≡◌, ◌≤◌, ℕ, true, List, length};
+ghost use Rattle.gm_events.specs.declared.event.Event.{Event};
+ghost use Rattle.gm_events.specs.declared.event.Event.TheVariants.{Passed};
+ghost use Rattle.gm_jobs.specs.declared.script.Line.{Line};
+ghost use Rattle.gm_jobs.specs.StatedJobs.{jobs_of};
+ghost use Rattle.gm_kernel.specs.Standings.{Standing};
+ghost use Rattle.gm_machine.specs.JobWorks.{JobWorks, Laws};
+ghost use Rattle.gm_machine.specs.Setups.{setup_of, IsMidwayEntry};
+ghost use Rattle.gm_machine.specs.Machine.{Miss, IsLegal, may, scene_of};
+ghost use Rattle.gm_machine.specs.Plans.{IsPlanned};
+ghost use Rattle.gm_machine.specs.Promises.{AllStages, IsMidwayOrLone, Apart, keys_of, AreHeldForRiders, IsNew, most_visits};
+ghost use Rattle.gm_machine.specs.Promises.{BeginsPlan, HasPlannedOutcomes, IsAtEnd, IsWholePlan};
+
+/// The jobs of a script, and the laws that their work keeps. It is given by whoever runs jobs, for laws alone.
+pub trait LawfulJobs {
+    /// A job between two passes.
+    ghost State: { Type 0 };
+
+    /// A script over a grid.
+    ghost Case: { Type 0 };
+
+    /// The script's entries, in file order.
+    ghost script: { Case → List Line };
+
+    /// What its jobs do.
+    ghost works: { Case → JobWorks State };
+
+    /// A job is in the middle of a phase.
+    ghost IsMidway: { Case → ℕ → Standing → State → Type 0 };
+
+    /// The works are of the script's jobs.
+    ghost many: { (case : Case) → (works case).jobs ≡ length (jobs_of (script case)) };
+
+    /// They keep the laws.
+    ghost lawful: { (case : Case) → Laws (works case) (IsMidway case) };
+}
+
+/// A law: each job of a legal journal that runs is in the middle of a phase, and each that ended by itself has its lone run.
+pub fn every_job_is_sound<J: LawfulJobs>()
+    ensures { (case : J.Case) (journal : List Event) → IsLegal (setup_of (J.works case) (J.script case)) journal
+        → AllStages (IsMidwayOrLone (IsMidwayEntry (J.IsMidway case)) (J.works case).lone)
+        (scene_of (setup_of (J.works case) (J.script case)) journal).jobs }
+{}
+
+/// A law: no key has two copies, and a copy is held only for jobs that run, have its key and still owe the visited chunk.
+pub fn copies_are_held_for_riders<J: LawfulJobs>()
+    ensures once { (case : J.Case) (journal : List Event) → IsLegal (setup_of (J.works case) (J.script case)) journal
+        → Apart (keys_of (scene_of (setup_of (J.works case) (J.script case)) journal).held) }
+    ensures riders { (case : J.Case) (journal : List Event) → IsLegal (setup_of (J.works case) (J.script case)) journal
+        → AreHeldForRiders (setup_of (J.works case) (J.script case))
+        (scene_of (setup_of (J.works case) (J.script case)) journal) }
+{}
+
+/// A law: where a job may pass a chunk, it hasn't passed this chunk in its phase.
+pub fn chunks_are_passed_once<J: LawfulJobs>()
+    ensures { (case : J.Case) (journal : List Event) (job chunk : ℕ)
+        → IsLegal (setup_of (J.works case) (J.script case)) journal
+        → may (setup_of (J.works case) (J.script case))
+        (scene_of (setup_of (J.works case) (J.script case)) journal) (Passed job chunk) ≡ true
+        → AllStages (IsNew job chunk) (scene_of (setup_of (J.works case) (J.script case)) journal).jobs }
+{}
+
+/// A law: no legal journal has more visits than its jobs have phases, times the chunks.
+pub fn visits_are_bounded<J: LawfulJobs>()
+    ensures { (case : J.Case) (journal : List Event) → IsLegal (setup_of (J.works case) (J.script case)) journal
+        → length (scene_of (setup_of (J.works case) (J.script case)) journal).visits ≤ most_visits (J.works case) }
+{}
+
+/// A law: whatever the order of passes, the visits of a planned journal with their riders and keys are those that the plan of its
+/// misses begins with, however it goes on. Each job that has ended has its outcome there. Where every entry is in, no visit is open
+/// and no job runs, they are all of the plan.
+pub fn visits_are_planned<J: LawfulJobs>()
+    ensures visits { (case : J.Case) (journal : List Event) (more : List Miss)
+        → IsPlanned (setup_of (J.works case) (J.script case)) journal
+        → BeginsPlan (setup_of (J.works case) (J.script case)) more
+        (scene_of (setup_of (J.works case) (J.script case)) journal) }
+    ensures outcomes { (case : J.Case) (journal : List Event) (more : List Miss)
+        → IsPlanned (setup_of (J.works case) (J.script case)) journal
+        → HasPlannedOutcomes (setup_of (J.works case) (J.script case)) more
+        (scene_of (setup_of (J.works case) (J.script case)) journal) }
+    ensures end { (case : J.Case) (journal : List Event) (more : List Miss)
+        → IsPlanned (setup_of (J.works case) (J.script case)) journal
+        → IsAtEnd (setup_of (J.works case) (J.script case)) (scene_of (setup_of (J.works case) (J.script case)) journal)
+        → IsWholePlan (setup_of (J.works case) (J.script case)) more
+        (scene_of (setup_of (J.works case) (J.script case)) journal) }
+{}
