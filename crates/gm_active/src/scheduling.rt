@@ -2,7 +2,7 @@
 
 ghost use Rattle.std.specs.Prelude.{◌≡◌, ◌&&◌, ◌||◌, ◌*◌, ◌<◌, ◌≤◌, ℕ, length, All};
 ghost use Rattle.std.specs.List.{list_any};
-ghost use Rattle.gm_label.specs.Catalogues.{place_at, sources_at};
+ghost use Rattle.gm_label.specs.Catalogues.{sources_at, AreChunksOf};
 ghost use Rattle.gm_label.specs.Overlays.{added_at, AreOverlays};
 ghost use Rattle.gm_active.specs.Bits.{is_in};
 ghost use Rattle.gm_active.specs.Needs.{has_source, is_column_active, needed_chunks_under, counted_chunks_under};
@@ -11,6 +11,7 @@ ghost use Rattle.gm_active.specs.Adding.{AreMarksOver, with_all, between, is_nee
 use crate::active::Active;
 use crate::chunk_set::ChunkSet;
 use gm_label::{Catalogue, Overlay, Overlays};
+use std::ops::Range;
 
 /// Whether a vertex of a block's column is active and counts: the kernel goes both ways, and one of the destinations that edges of
 /// the block may have is active.
@@ -32,62 +33,57 @@ fn has_active_source(label: &[(u32, u32)], active: &Active) -> bool
     label.iter().any(|pair| active.has(pair.0))
 }
 
-/// Adds the chunks that have a source, of those from the first one on and below the end.
-fn add_with_source(cat: &Catalogue, first: u32, end: u32, into: &mut ChunkSet)
+/// Adds those of these chunks that have a source.
+fn add_with_source(cat: &Catalogue, chunks: Range<u32>, into: &mut ChunkSet)
     requires chunks { length into.old ≡ length cat.now.places }
-    requires end { end ≤ length cat.now.places }
-    ensures { into.new ≡ with_all into.old (between first end (λ c. has_source (sources_at cat.now c))) }
+    requires end { chunks.end ≤ length cat.now.places }
+    ensures { into.new
+        ≡ with_all into.old (between chunks.start chunks.end (λ c. has_source (sources_at cat.now c))) }
 {
-    for c in first..end {
+    for c in chunks.start..chunks.end {
         if !cat.label(c).is_empty() {
             into.add(c);
         }
     }
 }
 
-/// Adds the chunks of which a source is active, of those from the first one on and below the end.
-fn add_with_active_source(
-    cat: &Catalogue,
-    active: &Active,
-    first: u32,
-    end: u32,
-    into: &mut ChunkSet,
-)
+/// Adds those of these chunks of which a source is active.
+fn add_with_active_source(cat: &Catalogue, active: &Active, chunks: Range<u32>, into: &mut ChunkSet)
     requires marks { AreMarksOver cat.now active.now into.old }
-    requires end { end ≤ length cat.now.places }
+    requires end { chunks.end ≤ length cat.now.places }
     ensures { into.new
-        ≡ with_all into.old (between first end (λ c. list_any (is_in active.now) (sources_at cat.now c))) }
+        ≡ with_all into.old
+        (between chunks.start chunks.end (λ c. list_any (is_in active.now) (sources_at cat.now c))) }
 {
-    for c in first..end {
+    for c in chunks.start..chunks.end {
         if has_active_source(cat.label(c), active) {
             into.add(c);
         }
     }
 }
 
-/// Adds the chunks that are needed for their labels, of a block's chunks from the first one on and below the end. A block whose
-/// row, and for a two-way kernel whose column, has no active vertex is passed over.
+/// Adds the chunks that are needed for their labels, of a block's chunks. A block whose row, and for a two-way kernel whose column,
+/// has no active vertex is passed over.
 fn add_of_block(
     cat: &Catalogue,
     active: &Active,
     two_way: bool,
     block: u32,
-    first: u32,
-    end: u32,
+    chunks: Range<u32>,
     into: &mut ChunkSet,
 )
     requires block { block < cat.now.dimensions.parts * cat.now.dimensions.parts }
-    requires in_block { (c : ℕ) → first ≤ c → c < end → (place_at cat.now c).block ≡ block }
+    requires chunks { AreChunksOf cat.now block chunks.start chunks.end }
     requires marks { AreMarksOver cat.now active.now into.old }
-    requires end { end ≤ length cat.now.places }
     ensures { into.new
         ≡ with_all into.old
-        (between first end (λ c. is_needed_for cat.now two_way active.now c (sources_at cat.now c))) }
+        (between chunks.start chunks.end
+        (λ c. is_needed_for cat.now two_way active.now c (sources_at cat.now c))) }
 {
     if is_column_active(cat, active, two_way, block) {
-        add_with_source(cat, first, end, into);
+        add_with_source(cat, chunks, into);
     } else if active.any(cat.first_source(block), cat.end_source(block)) {
-        add_with_active_source(cat, active, first, end, into);
+        add_with_active_source(cat, active, chunks, into);
     }
 }
 
@@ -101,9 +97,9 @@ fn add_by_labels(cat: &Catalogue, active: &Active, two_way: bool, into: &mut Chu
     let mut at = 0;
     while at < chunks {
         let block = cat.chunk(at).block;
-        let first = cat.first_of(block);
-        let end = cat.last_of(block) + 1;
-        add_of_block(cat, active, two_way, block, first, end, into);
+        let of_block = cat.chunks_of(block);
+        let end = of_block.end;
+        add_of_block(cat, active, two_way, block, of_block, into);
         at = end;
     }
 }
@@ -211,6 +207,6 @@ pub fn owed_in_counting(cat: &Catalogue, overlays: &Overlays, into: &mut ChunkSe
     ensures { into.new ≡ counted_chunks_under cat.now overlays.now }
 {
     into.clear();
-    add_with_source(cat, 0, cat.chunks(), into);
+    add_with_source(cat, 0..cat.chunks(), into);
     add_with_added(cat, overlays.as_slice(), into);
 }

@@ -94,6 +94,15 @@ pub record IsOver (cat : Catalogue) (edges : List Edge) : Type 0 where
   pub in_block : (c : ℕ) → All (λ e. block_of cat.dimensions e ≡ (place_at cat c).block) (base_at cat edges c)
   pub listed : (c : ℕ) → All (λ e. list_any (λ s. s == e.from) (sources_at cat c) ≡ true) (base_at cat edges c)
 
+-- the chunks of this block follow one another, from the first on and below the end, and the last of them alone is the block's last
+pub record AreChunksOf (cat : Catalogue) (block first end : ℕ) : Type 0 where
+  pub some : first < end
+  pub within : end ≤ length cat.places
+  pub here : (c : ℕ) → first ≤ c → c < end → (place_at cat c).block ≡ block
+  pub before : (c : ℕ) → c < first → (place_at cat c).block < block
+  pub behind : (c : ℕ) → end ≤ c → c < length cat.places → block < (place_at cat c).block
+  pub last : (c : ℕ) → first ≤ c → c < end → (place_at cat c).is_last ≡ (c + 1 == end)
+
 -- chunks before this one are of lower blocks, it is of this block, and those from it on are of this or later blocks
 pub record IsFirstOf (cat : Catalogue) (block c : ℕ) : Type 0 where
   pub within : c < length cat.places

@@ -5,6 +5,7 @@ pub mod LabelsRules
 pub mod Catalogues
 pub mod CataloguesRules
 pub mod Counts
+pub mod SearchRules
 pub mod Stored
 pub mod Overlays
 pub mod Examples

@@ -5,7 +5,7 @@ ghost use Rattle.std.specs.List.{list_any};
 ghost use Rattle.gm_base.specs.declared.limits.TheConstants.{MAX_EDGES, MAX_CHUNKS, MAX_CHUNK_SIZE};
 ghost use Rattle.gm_label.specs.Chunks.{chunks_of, too_many_chunks};
 ghost use Rattle.gm_label.specs.Labels.{sources_of, IsLabel};
-ghost use Rattle.gm_label.specs.Catalogues.{place_at, label_at, sources_at, unlabelled, with_label, FitsChunk, IsFirstOf, IsLastOf, first_source_of, end_source_of, IsSourceIn, AreInRows};
+ghost use Rattle.gm_label.specs.Catalogues.{place_at, label_at, sources_at, unlabelled, with_label, FitsChunk, AreChunksOf, IsFirstOf, IsLastOf, first_source_of, end_source_of, IsSourceIn, AreInRows};
 
 use crate::chunk::{Chunk, Place};
 use crate::label::{ChunkLabel, lists};
@@ -14,6 +14,7 @@ use crate::plan::{PlanError, chunk_count, cut_blocks};
 use gm_base::{MAX_CHUNKS, Memory, Shape};
 use std::alloc::Global;
 use std::marker::Model;
+use std::ops::Range;
 
 /// The chunks of a grid and their labels.
 #[derive(Drop)]
@@ -119,12 +120,22 @@ impl Catalogue {
         self.places[c as usize].is_last
     }
 
+    /// The numbers of a block's chunks, which follow one another. Each block has a chunk.
+    pub fn chunks_of(&self, block: u32) -> Range<u32>
+        requires { block < self.now.dimensions.parts * self.now.dimensions.parts }
+        ensures chunks { AreChunksOf self.now block result.start result.end }
+        ensures within { result.end ≤ length self.now.places }
+    {
+        let at = block as usize;
+        self.firsts[at]..self.firsts[at + 1]
+    }
+
     /// The number of the first chunk of a block.
     pub fn first_of(&self, block: u32) -> u32
         requires { block < self.now.dimensions.parts * self.now.dimensions.parts }
         ensures { IsFirstOf self.now block result }
     {
-        self.firsts[block as usize]
+        self.chunks_of(block).start
     }
 
     /// The number of the last chunk of a block.
@@ -132,7 +143,7 @@ impl Catalogue {
         requires { block < self.now.dimensions.parts * self.now.dimensions.parts }
         ensures { IsLastOf self.now block result }
     {
-        self.firsts[block as usize + 1] - 1
+        self.chunks_of(block).end - 1
     }
 
     /// The first source that edges of a block may have. No label of a chunk has others than its block's.
@@ -164,7 +175,7 @@ impl Catalogue {
         self.labels.get(c as usize)
     }
 
-    /// Whether the label of a chunk has a source, by halving.
+    /// Whether the label of a chunk has a source.
     pub fn lists(&self, c: u32, source: u32) -> bool
         requires { c < length self.now.places }
         ensures { result ≡ list_any (λ s. s == source) (sources_at self.now c) }

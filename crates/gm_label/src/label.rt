@@ -145,24 +145,10 @@ fn push_runs(sources: &[u32], pairs: &mut Vec<(u32, u32)>) -> Result<(), Memory>
     Ok(())
 }
 
-/// Whether an ascending label has a source, by halving.
+/// Whether an ascending label has a source.
 pub(crate) fn lists(label: &[(u32, u32)], source: u32) -> bool
     requires { IsLabel label.now }
     ensures { result ≡ list_any (λ s. s == source) (sources_of label.now) }
 {
-    let mut low = 0;
-    let mut high = label.len();
-    while low < high {
-        let middle = low + (high - low) / 2;
-        let here = label[middle].0;
-        if here == source {
-            return true;
-        }
-        if here < source {
-            low = middle + 1;
-        } else {
-            high = middle;
-        }
-    }
-    false
+    label.binary_search_by_key(&source, |pair| pair.0).is_ok()
 }

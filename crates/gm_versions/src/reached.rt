@@ -2,7 +2,6 @@
 
 ghost use Rattle.std.specs.Prelude.{◌≡◌, ◌*◌, ◌<◌, ◌≤◌, ◌-◌, [], ◌∷◌, option_to_list};
 ghost use Rattle.gm_changes.specs.Changes.{ChangesWithin};
-ghost use Rattle.gm_label.specs.Catalogues.{IsLastOf};
 ghost use Rattle.gm_versions.specs.Contents.{added_sources};
 ghost use Rattle.gm_versions.specs.Reaches.{IsReachOf};
 
@@ -21,17 +20,6 @@ pub fn added_source(change: Change) -> Option<u32>
     }
 }
 
-/// The number behind that of the last chunk of a block.
-fn end_of_block(cat: &Catalogue, block: u32) -> u32
-    requires { block < cat.now.dimensions.parts * cat.now.dimensions.parts }
-    ensures some { 1 ≤ result }
-    ensures last { IsLastOf cat.now block (result - 1) }
-{
-    let last = cat.last_of(block);
-    prove!(last < cat.chunks());
-    last + 1
-}
-
 /// The chunks that a change may concern, whatever their sources are: the last chunk of an added edge's block, and the chunks of a
 /// cut's block.
 pub fn reach(cat: &Catalogue, change: Change) -> Range<u32>
@@ -40,13 +28,12 @@ pub fn reach(cat: &Catalogue, change: Change) -> Range<u32>
 {
     match change {
         Change::Add(edge) => {
-            let block = cat.shape().block_of(&edge);
-            cat.last_of(block)..end_of_block(cat, block)
+            let chunks = cat.chunks_of(cat.shape().block_of(&edge));
+            chunks.end - 1..chunks.end
         }
         Change::Cut { from, to } => {
             let weight = 0;
-            let block = cat.shape().block_of(&Edge { from, to, weight });
-            cat.first_of(block)..end_of_block(cat, block)
+            cat.chunks_of(cat.shape().block_of(&Edge { from, to, weight }))
         }
     }
 }

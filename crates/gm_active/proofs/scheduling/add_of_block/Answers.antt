@@ -23,8 +23,8 @@ quiet_block cat two_way active block k here placed column row =
 pub returns-else-any : goal.returns-else-any
 returns-else-any c =
     let cat = c.args.cat.now in
-    between_nothing c.args.into.now c.args.first c.args.end (λ k. is_needed_for cat c.args.two_way c.args.active.now k (sources_at cat k)) (λ k low high.
-    quiet_block cat c.args.two_way c.args.active.now c.args.block k (c.requires.in_block k low high) c.first_source.ensures.in_rows
+    between_nothing c.args.into.now c.args.chunks.start c.args.chunks.end (λ k. is_needed_for cat c.args.two_way c.args.active.now k (sources_at cat k)) (λ k low high.
+    quiet_block cat c.args.two_way c.args.active.now c.args.block k (c.requires.chunks.here k low high) c.first_source.ensures.in_rows
     (sym c.is_column_active.ensures ∙ c.if-is_column_active.false)
     (ap (λ (end : ℕ). any_between (is_in c.args.active.now) (first_source_of cat.dimensions c.args.block) end) (sym c.end_source.ensures.value)
     ∙ ap (λ (first : ℕ). any_between (is_in c.args.active.now) first c.end_source.result) (sym c.first_source.ensures.value) ∙ sym c.any.ensures ∙ c.if-any.false))
@@ -33,14 +33,14 @@ pub returns-then-is_column_active : goal.returns-then-is_column_active
 returns-then-is_column_active c =
     let cat = c.args.cat.now in
     c.add_with_source.ensures
-    ∙ between_same c.args.into.now c.args.first c.args.end (λ k. has_source (sources_at cat k)) (λ k. is_needed_for cat c.args.two_way c.args.active.now k (sources_at cat k)) (λ k low high.
-    sym (by_block cat c.args.two_way c.args.active.now c.args.block k (c.requires.in_block k low high)
+    ∙ between_same c.args.into.now c.args.chunks.start c.args.chunks.end (λ k. has_source (sources_at cat k)) (λ k. is_needed_for cat c.args.two_way c.args.active.now k (sources_at cat k)) (λ k low high.
+    sym (by_block cat c.args.two_way c.args.active.now c.args.block k (c.requires.chunks.here k low high)
     ∙ needed_with_column cat.dimensions c.args.two_way (is_in c.args.active.now) c.args.block (sources_at cat k) (sym c.is_column_active.ensures ∙ c.if-is_column_active.true)))
 
 pub returns-then-any : goal.returns-then-any
 returns-then-any c =
     let cat = c.args.cat.now in
     c.add_with_active_source.ensures
-    ∙ between_same c.args.into.now c.args.first c.args.end (λ k. list_any (is_in c.args.active.now) (sources_at cat k)) (λ k. is_needed_for cat c.args.two_way c.args.active.now k (sources_at cat k)) (λ k low high.
-    sym (by_block cat c.args.two_way c.args.active.now c.args.block k (c.requires.in_block k low high)
+    ∙ between_same c.args.into.now c.args.chunks.start c.args.chunks.end (λ k. list_any (is_in c.args.active.now) (sources_at cat k)) (λ k. is_needed_for cat c.args.two_way c.args.active.now k (sources_at cat k)) (λ k low high.
+    sym (by_block cat c.args.two_way c.args.active.now c.args.block k (c.requires.chunks.here k low high)
     ∙ needed_without_column cat.dimensions c.args.two_way (is_in c.args.active.now) c.args.block (sources_at cat k) (sym c.is_column_active.ensures ∙ c.if-is_column_active.false)))

@@ -12,7 +12,7 @@ use Rattle.gm_active.proofs.scheduling.add_with_active_source.Goals.{then-has_ac
 pub loop-c-init : goal.loop-c-init
 loop-c-init c = record {
   within = omega arith;
-  added = between_none c.args.into.now c.args.first (λ k. list_any (is_in c.args.active.now) (sources_at c.args.cat.now k));
+  added = between_none c.args.into.now c.args.chunks.start (λ k. list_any (is_in c.args.active.now) (sources_at c.args.cat.now k));
 }
 
 pub has_active_source-requires : goal.has_active_source-requires
@@ -21,7 +21,7 @@ has_active_source-requires c =
 
 pub add-requires : goal.add-requires
 add-requires c =
-    let long = length-with_all c.args.into.now (between c.args.first c.loop-c.c (λ k. list_any (is_in c.args.active.now) (sources_at c.args.cat.now k))) in
+    let long = length-with_all c.args.into.now (between c.args.chunks.start c.loop-c.c (λ k. list_any (is_in c.args.active.now) (sources_at c.args.cat.now k))) in
     let same = ap (λ (marks : List Bool). length marks) c.loop-c.invariant.added in
     omega (arith, c.requires.marks.chunks, c.requires.end)
 
@@ -35,10 +35,10 @@ loop-c-preserved c =
       | then-has_active_source w ↦ record {
         within = omega arith;
         added = w.into-is ∙ w.add.ensures ∙ ap (λ (marks : List Bool). set marks c.loop-c.c true) c.loop-c.invariant.added
-            ∙ between_yes c.args.into.now c.args.first c.loop-c.c test c.loop-c.auto.c (omega (arith, c.requires.marks.chunks, c.requires.end)) (here ∙ w.if-has_active_source.true);
+            ∙ between_yes c.args.into.now c.args.chunks.start c.loop-c.c test c.loop-c.auto.c (omega (arith, c.requires.marks.chunks, c.requires.end)) (here ∙ w.if-has_active_source.true);
       }
       | else-has_active_source w ↦ record {
         within = omega arith;
-        added = w.into-is ∙ c.loop-c.invariant.added ∙ between_no c.args.into.now c.args.first c.loop-c.c test c.loop-c.auto.c (here ∙ w.if-has_active_source.false);
+        added = w.into-is ∙ c.loop-c.invariant.added ∙ between_no c.args.into.now c.args.chunks.start c.loop-c.c test c.loop-c.auto.c (here ∙ w.if-has_active_source.false);
       }
     ]

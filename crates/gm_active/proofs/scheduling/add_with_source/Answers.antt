@@ -11,12 +11,12 @@ use Rattle.gm_active.proofs.scheduling.add_with_source.Goals.{then-not-is_empty,
 pub loop-c-init : goal.loop-c-init
 loop-c-init c = record {
   within = omega arith;
-  added = between_none c.args.into.now c.args.first (λ k. has_source (sources_at c.args.cat.now k));
+  added = between_none c.args.into.now c.args.chunks.start (λ k. has_source (sources_at c.args.cat.now k));
 }
 
 pub add-requires : goal.add-requires
 add-requires c =
-    let long = length-with_all c.args.into.now (between c.args.first c.loop-c.c (λ k. has_source (sources_at c.args.cat.now k))) in
+    let long = length-with_all c.args.into.now (between c.args.chunks.start c.loop-c.c (λ k. has_source (sources_at c.args.cat.now k))) in
     let same = ap (λ (marks : List Bool). length marks) c.loop-c.invariant.added in
     omega (arith, c.requires.chunks, c.requires.end)
 
@@ -29,10 +29,10 @@ loop-c-preserved c =
       | then-not-is_empty w ↦ record {
         within = omega arith;
         added = w.into-is ∙ w.add.ensures ∙ ap (λ (marks : List Bool). set marks c.loop-c.c true) c.loop-c.invariant.added
-            ∙ between_yes c.args.into.now c.args.first c.loop-c.c test c.loop-c.auto.c (omega (arith, c.requires.chunks, c.requires.end)) (here ∙ ap not w.if-not-is_empty.true);
+            ∙ between_yes c.args.into.now c.args.chunks.start c.loop-c.c test c.loop-c.auto.c (omega (arith, c.requires.chunks, c.requires.end)) (here ∙ ap not w.if-not-is_empty.true);
       }
       | else-not-is_empty w ↦ record {
         within = omega arith;
-        added = w.into-is ∙ c.loop-c.invariant.added ∙ between_no c.args.into.now c.args.first c.loop-c.c test c.loop-c.auto.c (here ∙ ap not w.if-not-is_empty.false);
+        added = w.into-is ∙ c.loop-c.invariant.added ∙ between_no c.args.into.now c.args.chunks.start c.loop-c.c test c.loop-c.auto.c (here ∙ ap not w.if-not-is_empty.false);
       }
     ]

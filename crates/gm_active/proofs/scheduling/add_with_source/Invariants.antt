@@ -6,6 +6,6 @@ use Rattle.gm_active.proofs.scheduling.add_with_source.Given as goal
 
 abbrev pub invariant-loop-c : goal.invariant-loop-c
 invariant-loop-c l = record {
-  within : l.c ≤ max l.first l.end;
-  added : l.into ≡ with_all l.initial.into (between l.first l.c (λ c. has_source (sources_at l.cat c)));
+  within : l.c ≤ max l.fn.chunks.start l.fn.chunks.end;
+  added : l.into ≡ with_all l.initial.into (between l.fn.chunks.start l.c (λ c. has_source (sources_at l.cat c)));
 }
