@@ -7,7 +7,7 @@ use Rattle.gm_commands.specs.declared.failure.Refusal.{Refusal}
 use Rattle.gm_commands.specs.declared.failure.Failure.{Failure}
 use Rattle.gm_commands.specs.declared.failure.Failure.TheVariants.{Refused, ReadFailed, WriteFailed, OutputFailed, OutOfMemory}
 use Rattle.gm_commands.specs.Failures.{status_of, refusal_status}
-use Rattle.gm_commands.specs.Readings.{Reading, AreTaken, DepotFailed, ServedUnless, IsReadingFailure}
+use Rattle.gm_commands.specs.Readings.{Reading, AreTaken, AsksJust, DepotFailed, DepotServed, ServedUnless, IsReadingFailure}
 use Rattle.gm_commands.specs.StandardError.{error_line, usage_line, out_of_memory_line, IsSaid, SaysNothing}
 
 -- what is outside of a command: the depot, and standard output
@@ -77,6 +77,17 @@ pub record IsWriteFault (reading : Reading) (old new : DepotState) : Type 0 wher
   pub failed : DepotFailed old new
   pub write_failed : Rose old.write_faults new.write_faults
   pub taken : AreTaken reading old.files
+  pub asked : AsksJust reading.files old new
+
+-- A reading that was over: its files aren't refused, and the size of each was asked for.
+pub record IsReadThrough (reading : Reading) (old new : DepotState) : Type 0 where
+  pub taken : AreTaken reading old.files
+  pub asked : AsksJust reading.files old new
+
+-- no call on the depot failed, but for fetches behind a reading that was over
+abbrev pub ServedUntilRead : Reading → DepotState → DepotState → Type 0
+ServedUntilRead reading old new =
+    DepotServed old new ⊎ (IsTrue reading.fetches × IsReadThrough reading old new)
 
 -- why a command ends with this failure: a cause in its reading, or a fault while it writes what the files give
 abbrev pub EndsBy : Reading → Outside → Outside → Failure → Type 0
@@ -87,21 +98,24 @@ EndsBy reading old new (ReadFailed operand) =
 EndsBy reading old new (WriteFailed operand) = IsWriteFault reading old.depot new.depot × OutputServed old new
 EndsBy reading old new OutputFailed =
     Rose old.out.faults new.out.faults × AreTaken reading old.depot.files × ServedUnless reading.fetches old.depot new.depot
-EndsBy reading old new OutOfMemory = ServedUnless reading.fetches old.depot new.depot × OutputServed old new
+    × AsksJust reading.files old.depot new.depot
+EndsBy reading old new OutOfMemory = ServedUntilRead reading old.depot new.depot × OutputServed old new
 
 -- What a command answers, the status after it or a failure, and what it leaves. It has succeeded where its files aren't refused, it did
--- what it is for and no call failed.
+-- what it is for, asked for the size of each of its files once, and no call failed.
 pub record Handles (contract : CommandContract) (old new : Outside) (result : Result ℕ Failure) : Type 0 where
   pub taken : OnOk result (AreTaken contract.reading old.depot.files)
   pub performs : IfOk result (contract.Performs old new)
+  pub asked : OnOk result (AsksJust contract.reading.files old.depot new.depot)
   pub served : OnOk result (ServedUnless contract.reading.fetches old.depot new.depot × OutputServed old new)
   pub cause : IfErr result (EndsBy contract.reading old new)
   pub leaves : IfErr result (contract.Leaves old new)
 
--- The command's files aren't refused, it did what it is for, no call failed, and nothing was said.
+-- The command's files aren't refused, it did what it is for and asked for the size of each file once, no call failed, and nothing was said.
 pub record HasSucceeded (contract : CommandContract) (call : CommandCall) : Type 0 where
   pub taken : AreTaken contract.reading call.old.depot.files
   pub performs : contract.Performs call.old call.new call.status
+  pub asked : AsksJust contract.reading.files call.old.depot call.new.depot
   pub depot_served : ServedUnless contract.reading.fetches call.old.depot call.new.depot
   pub output_served : OutputServed call.old call.new
   pub silence : SaysNothing call.err_old call.err_new

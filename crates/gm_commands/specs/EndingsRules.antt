@@ -1,13 +1,13 @@
 -- What a call comes to whose words are a command, where there was no memory to read them.
-use Rattle.std.specs.Prelude.{◌≡◌, ℕ, Bool, true, false, List, Option, Some, None, IfSome, refl}
-use Rattle.std.proofs.Common.{ap, inr, subst, sym}
+use Rattle.std.specs.Prelude.{◌≡◌, ℕ, List, Option, Some, None, IfSome, refl}
+use Rattle.std.proofs.Common.{ap, inl, inr, subst, sym}
 use Rattle.gm_outside.specs.Files.{Files}
 use Rattle.gm_outside.specs.States.{DepotState}
 use Rattle.gm_words.specs.Commands.{Command}
 use Rattle.gm_commands.specs.declared.failure.Refusal.{Refusal}
 use Rattle.gm_commands.specs.declared.failure.Failure.TheVariants.{OutOfMemory}
 use Rattle.gm_commands.specs.Failures.{text_of}
-use Rattle.gm_commands.specs.Readings.{Reading, DepotServed, ServedUnless}
+use Rattle.gm_commands.specs.Readings.{Reading}
 use Rattle.gm_commands.specs.StandardError.{error_line, out_of_memory_line, IsSaid}
 use Rattle.gm_commands.specs.Endings.{CommandCall, CommandContract, FollowsFrom, HasFailed, IsComplete, LacksWords, Outside}
 
@@ -16,10 +16,6 @@ pub record AllowsNothing (contract : CommandContract) : Type 0 where
   pub leaves : (before : Outside) → contract.Leaves before before OutOfMemory
   pub reads : (before : DepotState) → contract.Reads before before 8
   pub keeps : (before : DepotState) → contract.KeepsFiles before before
-
-served_unless : (fetches : Bool) (old new : DepotState) → DepotServed old new → ServedUnless fetches old new
-served_unless true old new served = tt
-served_unless false old new served = served
 
 -- the line of a command that failed so is the same, since it names no file
 same_line : (command : Command) → out_of_memory_line ≡ error_line command OutOfMemory
@@ -33,7 +29,7 @@ lacks_words-failed command contract call allows lacks = record {
   failure = OutOfMemory;
   status_is = lacks.status_is;
   cause = (
-    served_unless contract.reading.fetches call.old.depot call.new.depot (ap (λ (o : Outside). o.depot.faults) lacks.nothing),
+    inl (ap (λ (o : Outside). o.depot.faults) lacks.nothing),
     ap (λ (o : Outside). o.out.faults) lacks.nothing,
   );
   leaves = subst (λ (new : Outside). contract.Leaves call.old new OutOfMemory) (sym lacks.nothing) (allows.leaves call.old);

@@ -19,6 +19,10 @@ use Rattle.gm_commands.specs.Failures.{refused_operand}
 pub record Reading : Type 0 where
   -- whether it reads this file
   pub reads : Operand → Bool
+  -- how many files it reads: it asks for the size of each, once
+  pub files : ℕ
+  -- how many sizes it has asked for with that of this file
+  pub asked : Operand → ℕ
   -- why the files are refused: the first reason, if there is one
   pub refusal : Files → Option Refusal
   -- the same for what is known of the files when this one is asked for, in the reading's read of this number
@@ -30,6 +34,8 @@ pub record Reading : Type 0 where
 abbrev pub no_reading : Reading
 no_reading = record {
   reads = λ operand. false;
+  files = 0;
+  asked = λ operand. 0;
   refusal = λ files. None;
   refusal_before = λ operand number files. None;
   fetches = false;
@@ -39,6 +45,8 @@ no_reading = record {
 abbrev pub reading_then : Reading → Reading → Reading
 reading_then first second = record {
   reads = λ operand. first.reads operand || second.reads operand;
+  files = first.files + second.files;
+  asked = λ operand. if first.reads operand then first.asked operand else first.files + second.asked operand;
   refusal = λ files. option_or (first.refusal files) (second.refusal files);
   refusal_before = λ operand number files.
       if first.reads operand then first.refusal_before operand number files else first.refusal files;
@@ -51,18 +59,29 @@ is_operand Grid Grid = true
 is_operand Jobs Jobs = true
 is_operand _ _ = false
 
+-- why a file is refused, if there is one: it isn't there, or by what it holds for this reason
+abbrev pub refusal_of_file : Operand → (List ℕ → Option Refusal) → Option (List ℕ) → Option Refusal
+refusal_of_file operand refusal None = Some (Missing operand)
+refusal_of_file operand refusal (Some bytes) = refusal bytes
+
 -- one file, which is refused where it isn't there, and by what it holds for this reason
 abbrev pub reading_of_file : Operand → List ℕ → (List ℕ → Option Refusal) → Reading
 reading_of_file operand name refusal = record {
   reads = is_operand operand;
+  files = 1;
+  asked = λ asked. 1;
   refusal = λ files. refusal_of_file operand refusal (get files name);
   refusal_before = λ asked number files. None;
   fetches = false;
 }
-  where
-    refusal_of_file : Operand → (List ℕ → Option Refusal) → Option (List ℕ) → Option Refusal
-    refusal_of_file operand refusal None = Some (Missing operand)
-    refusal_of_file operand refusal (Some bytes) = refusal bytes
+
+-- the rest of a reading that has asked for its sizes
+abbrev pub rest_of_reading : Reading → Reading
+rest_of_reading reading = record reading { files = 0; asked = λ operand. 0 }
+
+-- so many sizes were asked for
+abbrev pub AsksJust : ℕ → DepotState → DepotState → Type 0
+AsksJust count old new = new.sizes ≡ counted_times count old.sizes
 
 -- the files aren't refused, where they are told
 abbrev pub AreTaken : Reading → Option Files → Type 0
@@ -90,12 +109,15 @@ IsUnrefusedBefore reading old new operand = (number : ℕ) → old.reads + numbe
 abbrev pub AreRefused : Reading → Option Files → Refusal → Type 0
 AreRefused reading files refusal = IfSome files (λ held. reading.refusal held ≡ Some refusal)
 
--- a failure that ends a reading: the files' refusal, a fault of the depot before any refusal, or want of memory
+-- a failure that ends a reading: the files' refusal, a fault of the depot before any refusal, each with the sizes that were asked for by then,
+-- or want of memory
 abbrev pub IsReadingFailure : Reading → DepotState → DepotState → Failure → Type 0
 IsReadingFailure reading old new (Refused refusal) =
     IsTrue (reading.reads (refused_operand refusal)) × DepotServed old new × AreRefused reading old.files refusal
+    × AsksJust (reading.asked (refused_operand refusal)) old new
 IsReadingFailure reading old new (ReadFailed operand) =
     IsTrue (reading.reads operand) × DepotFailed old new × IsUnrefusedBefore reading old new operand
+    × AsksJust (reading.asked operand) old new
 IsReadingFailure reading old new (WriteFailed operand) = ⊥
 IsReadingFailure reading old new OutputFailed = ⊥
 IsReadingFailure reading old new OutOfMemory = DepotServed old new
@@ -111,7 +133,7 @@ pub record ReadsWithin (asked most : ℕ) (old new : DepotState) : Type 0 where
 pub record ReadsFiles {T : Type 0} (files most : ℕ) (reading : Reading) (old new : DepotState) (result : Result T Failure) : Type 0 where
   pub frame : ReadsWithin files most old new
   pub ok : OnOk result (AreTaken reading old.files × DepotServed old new)
-  pub asked : OnOk result (new.sizes ≡ counted_times files old.sizes)
+  pub asked : OnOk result (AsksJust files old new)
   pub err : IfErr result (IsReadingFailure reading old new)
 
 -- what was read of a whole file, of which so many bytes were wanted at most: a longer one wasn't read

@@ -13,7 +13,7 @@ use Rattle.gm_commands.specs.declared.failure.Refusal.{Refusal}
 use Rattle.gm_commands.specs.declared.failure.Failure.{Failure}
 use Rattle.gm_commands.specs.declared.failure.Failure.TheVariants.{Refused, ReadFailed, WriteFailed, OutputFailed, OutOfMemory}
 use Rattle.gm_commands.specs.Failures.{refused_operand}
-use Rattle.gm_commands.specs.Readings.{Reading, reading_then, AreTaken, IsReadingFailure, IsUnrefusedBefore, ReadsFiles, ReadsWithin}
+use Rattle.gm_commands.specs.Readings.{Reading, reading_then, rest_of_reading, AreTaken, AsksJust, IsReadingFailure, IsUnrefusedBefore, ReadsFiles, ReadsWithin}
 
 or_left : (a b : Bool) → IsTrue a → IsTrue (a || b)
 or_left true b is = is
@@ -45,6 +45,15 @@ before_first : (told : Option Files) (first second : Reading) (operand : Operand
 before_first None first second operand number reads is = is
 before_first (Some held) first second operand number reads is = rw reads is
 
+asked_first : (first second : Reading) (operand : Operand) (old new : DepotState) → first.reads operand ≡ true
+    → AsksJust (first.asked operand) old new → AsksJust ((reading_then first second).asked operand) old new
+asked_first first second operand old new reads is = rw reads is
+
+asked_second : (first second : Reading) (operand : Operand) (old mid new : DepotState) → first.reads operand ≡ false
+    → AsksJust first.files old mid → AsksJust (second.asked operand) mid new → AsksJust ((reading_then first second).asked operand) old new
+asked_second first second operand old mid new other before is =
+    rw other (is ∙ ap (counted_times (second.asked operand)) before ∙ sym (counted_times-add first.files (second.asked operand) old.sizes))
+
 before_second : (told : Option Files) (first second : Reading) (operand : Operand) (number : ℕ) → first.reads operand ≡ false
     → AreTaken first told → IfSome told (λ held. (reading_then first second).refusal_before operand number held ≡ None)
 before_second None first second operand number other taken = taken
@@ -53,10 +62,18 @@ before_second (Some held) first second operand number other taken = rw other tak
 -- a failure of the first reading is one of both
 pub reading_failure-first : (old new : DepotState) (first second : Reading) (failure : Failure)
     → IsReadingFailure first old new failure → IsReadingFailure (reading_then first second) old new failure
-reading_failure-first old new first second (Refused refusal) is =
-    (or_left (first.reads (refused_operand refusal)) (second.reads (refused_operand refusal)) is.0, is.1, first_refused old.files first second refusal is.2)
-reading_failure-first old new first second (ReadFailed operand) is =
-    (or_left (first.reads operand) (second.reads operand) is.0, is.1, λ number made. before_first old.files first second operand number is.0 (is.2 number made))
+reading_failure-first old new first second (Refused refusal) is = (
+  or_left (first.reads (refused_operand refusal)) (second.reads (refused_operand refusal)) is.0,
+  is.1,
+  first_refused old.files first second refusal is.2,
+  asked_first first second (refused_operand refusal) old new is.0 is.3,
+)
+reading_failure-first old new first second (ReadFailed operand) is = (
+  or_left (first.reads operand) (second.reads operand) is.0,
+  is.1,
+  λ number made. before_first old.files first second operand number is.0 (is.2 number made),
+  asked_first first second operand old new is.0 is.3,
+)
 reading_failure-first old new first second (WriteFailed operand) is = is
 reading_failure-first old new first second OutputFailed is = is
 reading_failure-first old new first second OutOfMemory is = is
@@ -64,21 +81,23 @@ reading_failure-first old new first second OutOfMemory is = is
 -- a failure of the second reading is one of both, where the first refused nothing and no call failed
 pub reading_failure-then : (old mid new : DepotState) (first second : Reading) (failure : Failure)
     → AreApart first second → mid.files ≡ old.files → mid.calm ≡ old.calm → AreTaken first old.files → mid.faults ≡ old.faults
-    → IsReadingFailure second mid new failure → IsReadingFailure (reading_then first second) old new failure
-reading_failure-then old mid new first second (Refused refusal) apart files calm taken served is = (
+    → AsksJust first.files old mid → IsReadingFailure second mid new failure → IsReadingFailure (reading_then first second) old new failure
+reading_failure-then old mid new first second (Refused refusal) apart files calm taken served asked is = (
   or_right (first.reads (refused_operand refusal)) (second.reads (refused_operand refusal)) is.0,
   is.1 ∙ served,
   then_refused old.files first second (Some refusal) taken
       (subst (λ (told : Option Files). IfSome told (λ held. second.refusal held ≡ Some refusal)) files is.2),
+  asked_second first second (refused_operand refusal) old mid new (apart (refused_operand refusal) is.0) asked is.3,
 )
-reading_failure-then old mid new first second (ReadFailed operand) apart files calm taken served is = (
+reading_failure-then old mid new first second (ReadFailed operand) apart files calm taken served asked is = (
   or_right (first.reads operand) (second.reads operand) is.0,
   (omega (arith, is.1.0, served), λ is_calm. is.1.1 (calm ∙ is_calm)),
   λ number made. before_second old.files first second operand number (apart operand is.0) taken,
+  asked_second first second operand old mid new (apart operand is.0) asked is.3,
 )
-reading_failure-then old mid new first second (WriteFailed operand) apart files calm taken served is = is
-reading_failure-then old mid new first second OutputFailed apart files calm taken served is = is
-reading_failure-then old mid new first second OutOfMemory apart files calm taken served is = is ∙ served
+reading_failure-then old mid new first second (WriteFailed operand) apart files calm taken served asked is = is
+reading_failure-then old mid new first second OutputFailed apart files calm taken served asked is = is
+reading_failure-then old mid new first second OutOfMemory apart files calm taken served asked is = is ∙ served
 
 -- one call and then another
 reads_within-then : (asked few asked_then more : ℕ) (old mid new : DepotState)
@@ -117,10 +136,10 @@ reads_files-refused old new one few files most first second (Err failure) (Err o
 
 -- one reading, and then another
 pub reads_files-then : {X T : Type 0} (old mid new : DepotState) (one few other more : ℕ) (first second : Reading) (x : X)
-    (result : Result T Failure) → AreApart first second
+    (result : Result T Failure) → AreApart first second → one ≡ first.files
     → ReadsFiles one few first old mid (Ok x) → ReadsFiles other more second mid new result
     → ReadsFiles (one + other) (few + more) (reading_then first second) old new result
-reads_files-then old mid new one few other more first second x (Ok y) apart a b = record {
+reads_files-then old mid new one few other more first second x (Ok y) apart all a b = record {
   frame = reads_within-then one few other more old mid new a.frame b.frame;
   ok = (
     then_refused old.files first second None a.ok.0
@@ -130,29 +149,32 @@ reads_files-then old mid new one few other more first second x (Ok y) apart a b 
   asked = b.asked ∙ ap (counted_times other) a.asked ∙ sym (counted_times-add one other old.sizes);
   err = tt;
 }
-reads_files-then old mid new one few other more first second x (Err failure) apart a b = record {
+reads_files-then old mid new one few other more first second x (Err failure) apart all a b = record {
   frame = reads_within-then one few other more old mid new a.frame b.frame;
   ok = tt;
   asked = tt;
   err = reading_failure-then old mid new first second failure apart
-      a.frame.frame.files a.frame.frame.calm a.ok.0 a.ok.1 b.err;
+      a.frame.frame.files a.frame.frame.calm a.ok.0 a.ok.1
+      (subst (λ (files : ℕ). AsksJust files old mid) all a.asked) b.err;
 }
 
--- a failure of a part of a reading, behind parts in which no call failed, is one of the whole
+-- a failure of a part of a reading, behind its sizes and parts in which no call failed, is one of the whole
 pub reading_failure-later : (old mid new : DepotState) (reading : Reading) (failure : Failure)
     → mid.files ≡ old.files → mid.calm ≡ old.calm → mid.faults ≡ old.faults
     → ((operand : Operand) → IsTrue (reading.reads operand) → IsUnrefusedBefore reading old new operand)
-    → IsReadingFailure reading mid new failure → IsReadingFailure reading old new failure
-reading_failure-later old mid new reading (Refused refusal) files calm served unrefused is = (
+    → ((operand : Operand) → AsksJust (reading.asked operand) old mid)
+    → IsReadingFailure (rest_of_reading reading) mid new failure → IsReadingFailure reading old new failure
+reading_failure-later old mid new reading (Refused refusal) files calm served unrefused asked is = (
   is.0,
   is.1 ∙ served,
   subst (λ (told : Option Files). IfSome told (λ held. reading.refusal held ≡ Some refusal)) files is.2,
+  is.3 ∙ asked (refused_operand refusal),
 )
-reading_failure-later old mid new reading (ReadFailed operand) files calm served unrefused is =
-    (is.0, (omega (arith, is.1.0, served), λ is_calm. is.1.1 (calm ∙ is_calm)), unrefused operand is.0)
-reading_failure-later old mid new reading (WriteFailed operand) files calm served unrefused is = is
-reading_failure-later old mid new reading OutputFailed files calm served unrefused is = is
-reading_failure-later old mid new reading OutOfMemory files calm served unrefused is = is ∙ served
+reading_failure-later old mid new reading (ReadFailed operand) files calm served unrefused asked is =
+    (is.0, (omega (arith, is.1.0, served), λ is_calm. is.1.1 (calm ∙ is_calm)), unrefused operand is.0, is.3 ∙ asked operand)
+reading_failure-later old mid new reading (WriteFailed operand) files calm served unrefused asked is = is
+reading_failure-later old mid new reading OutputFailed files calm served unrefused asked is = is
+reading_failure-later old mid new reading OutOfMemory files calm served unrefused asked is = is ∙ served
 
 answers_same : (told : Option Files) (reading : Reading) (refusal : Files → Option Refusal) (answer : Option Refusal)
     → IfSome told (λ held. refusal held ≡ reading.refusal held)
@@ -175,7 +197,7 @@ reads_files-same old new files most reading refusal (Err failure) equal a =
   where
     same_failure : (failure : Failure) → IsReadingFailure reading old new failure
         → IsReadingFailure (record reading { refusal = refusal }) old new failure
-    same_failure (Refused reason) is = (is.0, is.1, answers_same old.files reading refusal (Some reason) equal is.2)
+    same_failure (Refused reason) is = (is.0, is.1, answers_same old.files reading refusal (Some reason) equal is.2, is.3)
     same_failure (ReadFailed operand) is = is
     same_failure (WriteFailed operand) is = is
     same_failure OutputFailed is = is

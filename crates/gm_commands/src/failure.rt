@@ -3,6 +3,7 @@
 ghost use Rattle.std.specs.Prelude.{◌≡◌};
 ghost use Rattle.gm_commands.specs.declared.failure.Failure.TheVariants.{OutOfMemory};
 
+use gm_base::Memory;
 use gm_edges::EdgeListRefusal;
 use gm_grid::GridError;
 use gm_jobs::JobsRefusal;
@@ -115,6 +116,14 @@ impl From<AllocError> for Failure {
     ghost from_gives = { λ _ failure. failure ≡ OutOfMemory };
 
     fn from(_error: AllocError) -> Failure {
+        Failure::OutOfMemory
+    }
+}
+
+impl From<Memory> for Failure {
+    ghost from_gives = { λ _ failure. failure ≡ OutOfMemory };
+
+    fn from(_error: Memory) -> Failure {
         Failure::OutOfMemory
     }
 }

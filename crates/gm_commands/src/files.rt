@@ -45,7 +45,8 @@ pub fn read_file<D: Depot>(
     operand: Operand,
     most: u64,
 ) -> Result<FileText, Failure>
-    ensures text { IfSome (D.state depot.old).files (λ files. IfOk result (λ text. IsTextOf (map.get files name.now) most text)) }
+    ensures text { IfSome (D.state depot.old).files (λ files.
+        IfOk result (λ text. IsTextOf (map.get files name.now) most text)) }
     ensures bounded { IfOk result (IsWithin most) }
     ensures read { IfOk result (λ text. (D.state depot.new).reads
         ≡ reads_of_text text (D.state depot.old).reads) }

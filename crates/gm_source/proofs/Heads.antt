@@ -28,7 +28,7 @@ too_short chunk_size size bytes short long =
     refused_by_head chunk_size bytes (BadSize size 16)
     (refusal_by_head-short (length bytes) (take 16 bytes) (omega (arith, long)) ∙ ap (λ (k : ℕ). Some (BadSize k 16)) long)
 
-by_head : (size : ℕ) (head bytes : List ℕ) (found : Option GridError) → refusal_by_head size head ≡ found → Begins size head bytes
+pub by_head : (size : ℕ) (head bytes : List ℕ) (found : Option GridError) → refusal_by_head size head ≡ found → Begins size head bytes
     → refusal_by_head (length bytes) (take 16 bytes) ≡ found
 by_head size head bytes found is begins = (λ i. refusal_by_head (begins.0 i) (sym begins.1 i)) ∙ is
 
@@ -45,12 +45,12 @@ good_head size head bytes shape taken is small begins = record {
 }
 
 -- a file of so many bytes with this head that has these bytes behind it
-record Indexed (size : ℕ) (shape : Dimensions) (piece bytes : List ℕ) : Type 0 where
-  long : length bytes ≡ size
-  head : HasHead shape bytes
-  counts_are : counts_of_index piece ≡ counts_in bytes
+pub record Indexed (size : ℕ) (shape : Dimensions) (piece bytes : List ℕ) : Type 0 where
+  pub long : length bytes ≡ size
+  pub head : HasHead shape bytes
+  pub counts_are : counts_of_index piece ≡ counts_in bytes
 
-indexed : (size : ℕ) (shape : Dimensions) (piece bytes : List ℕ) → length piece ≡ index_size shape
+pub indexed : (size : ℕ) (shape : Dimensions) (piece bytes : List ℕ) → length piece ≡ index_size shape
     → ((length bytes ≡ size) × HasHead shape bytes) × ((16 + length piece ≤ length bytes) × (piece ≡ take (length piece) (drop 16 bytes)))
     → Indexed size shape piece bytes
 indexed size shape piece bytes whole told = record {

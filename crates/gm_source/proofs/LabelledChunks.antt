@@ -1,6 +1,6 @@
 -- Chunks that are read and labelled one after the other.
 use Rattle.std.proofs.Common.{◌≡◌, ℕ, zero, suc, Result, ◌+◌, ◌*◌, ◌<◌, ◌≤◌, not, List, [], ◌∷◌, ◌++◌, length, map, take, drop, get_or, Option, Some, None, refl, sym, ap, subst, append-nil, ◌∙◌, arith}
-use Rattle.std.specs.Prelude.{IfSome, is_some, flat_map, sum, sum_by, nat_lt, Bool, true, false, if◌then◌else◌}
+use Rattle.std.specs.Prelude.{IfSome, IsSome, is_some, flat_map, sum, sum_by, nat_lt, Bool, true, false, if◌then◌else◌}
 use Rattle.std.specs.List.{position}
 use Rattle.std.specs.Option.{option_or, option_map}
 use Rattle.std.proofs.Math.Seq.{take-add}
@@ -34,6 +34,7 @@ use Rattle.gm_label.specs.Labels.{label_of}
 use Rattle.gm_label.specs.Catalogues.{Catalogue, no_place, place_at, label_at, catalogue_of, unlabelled, with_label}
 use Rattle.gm_label.specs.CataloguesRules.{labelled_up_to-none, labelled_up_to-next, labelled_up_to-all}
 use Rattle.gm_source.specs.Openings.{AreBytes, HasIndex, HasLabelled, IsCatalogueOf, IsTold, IsSameCut, IsSetAt, IsFreshFrom, IsPlanned, OpensBy, placed_of, edges_before, chunk_reads, reads_before}
+use Rattle.gm_source.specs.OpeningReads.{HasStray}
 use Rattle.gm_source.specs.declared.errors.OpenError.{OpenError}
 use Rattle.gm_source.specs.OpeningsRules.{opens_by-then, opens_by-more, opens_by-served}
 use Rattle.gm_source.specs.Fetches.{WasRead, ReadsChunk, chunk_start, is_in_chunk}
@@ -273,6 +274,22 @@ chunk-refused told name size k index cat kept stray within reads some is sizes l
     stray-refused size k (length kept) bytes cat (sizes bytes both.0.index.head.taken both.0.index.taken) read.within
     (search_in size k cat was.bytes bytes reads.read (Some (length kept)) was.is found read) both.0
     ∙ (λ i. Some (BadEdge ((sym read.place_is i).first + length kept))) ∙ ap (λ (n : ℕ). Some (BadEdge n)) (sym is))
+    (stands told name size k cat reads.read was labelled)
+
+-- then that edge is one of the file's chunk
+pub chunk-stray : (told : Option Files) (name : List ℕ) (size k : ℕ) (cat : Catalogue) (kept : List Edge) (stray : Option Edge)
+    → k < length cat.places → ReadsChunk told name cat k kept stray → is_some stray ≡ true
+    → IsTold told name (HasLabelled size k cat) → IsTold told name (HasStray size k)
+chunk-stray told name size k cat kept stray within reads some labelled =
+    let found = a_stray (is_in_chunk cat k) reads.read kept stray some reads.decoded in
+    let was = reads.from in
+    told-weaker told name _ _
+    (λ bytes both. let read = is_read size k cat was.bytes bytes within was.long both in
+    let place = chunk_in size bytes k in
+    let at : position (is_misplaced (shape_in bytes)) (placed_of (edges_in bytes) place) ≡ Some (length kept) =
+    position-in_block (shape_in bytes) place.block (base_of (edges_in bytes) place)
+    ∙ search_in size k cat was.bytes bytes reads.read (Some (length kept)) was.is found read in
+    subst (λ (o : Option ℕ). IsSome o) (sym at) refl)
     (stands told name size k cat reads.read was labelled)
 
 -- a chunk lies in the file

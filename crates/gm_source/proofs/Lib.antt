@@ -6,3 +6,4 @@ pub mod LabelledChunks
 pub mod ToldChunks
 pub mod Fetched
 pub mod RefusalReads
+pub mod ExactReads

@@ -20,10 +20,11 @@ use Rattle.gm_label.specs.declared.chunk.Place.{Place}
 use Rattle.gm_label.specs.Chunks.{chunks_of}
 use Rattle.gm_label.specs.Catalogues.{Catalogue, no_place, place_at}
 use Rattle.gm_source.specs.Openings.{IsTold, HasHead, HasLabelled, LabelsBy, ReadsUpTo, placed_of, chunk_reads, reads_before, edge_reads, head_reads}
+use Rattle.gm_source.specs.OpeningReads.{reads_to_plan}
 use Rattle.gm_source.proofs.Told.{told-weaker}
 use Rattle.gm_source.proofs.LabelledChunks.{Labels}
 
-both_none : (first second : Option ℕ) (more : ℕ) → option_or first (option_map (λ (i : ℕ). more + i) second) ≡ None → (first ≡ None) × (second ≡ None)
+pub both_none : (first second : Option ℕ) (more : ℕ) → option_or first (option_map (λ (i : ℕ). more + i) second) ≡ None → (first ≡ None) × (second ≡ None)
 both_none None None more none = (refl, refl)
 both_none None (Some i) more none = absurd cc
 both_none (Some i) second more none = absurd cc
@@ -82,7 +83,7 @@ two_reads true taken e rest none is = absurd cc
 two_reads false true e rest none is = refl
 two_reads false false e rest none is = absurd cc
 
-head_reads-taken : (bytes : List ℕ) → refusal_by_head (length bytes) (take 16 bytes) ≡ None → head_reads bytes ≡ 2
+pub head_reads-taken : (bytes : List ℕ) → refusal_by_head (length bytes) (take 16 bytes) ≡ None → head_reads bytes ≡ 2
 head_reads-taken bytes taken =
     two_reads (nat_lt (length bytes) HEAD_SIZE) (is_none (refusal_by_head (length bytes) (take 16 bytes))) (BadSize (length bytes) HEAD_SIZE) _ taken
     (ap (λ (found : Option GridError). is_none found) taken)
@@ -94,27 +95,35 @@ one_read true taken size before now is most unread = let none = unread (ltb-true
 one_read false true size before now is most unread = omega (arith, most)
 one_read false false size before now is most unread = omega (arith, most)
 
-if_there : (found : Option (List ℕ)) (P : List ℕ → Type 0) → IsSomeAnd found P → IfSome found P
-if_there None P told = tt
-if_there (Some bytes) P told = told
+found_few : (found : Option (List ℕ)) (old new : DepotState) → IsSomeAnd found (λ bytes. ReadsUpTo (head_reads bytes) old new)
+    → ReadsUpTo (reads_to_plan found) old new
+found_few None old new told = absurd told
+found_few (Some bytes) old new told = told
 
-if_told : (files : Option Files) (name : List ℕ) (P : List ℕ → Type 0) → IsTold files name P → IfSome files (λ held. IfSome (get held name) P)
-if_told None name P told = tt
-if_told (Some held) name P told = if_there (get held name) P told
+told_few : (files : Option Files) (name : List ℕ) (old new : DepotState) → IsTold files name (λ bytes. ReadsUpTo (head_reads bytes) old new)
+    → IfSome files (λ held. ReadsUpTo (reads_to_plan (get held name)) old new)
+told_few None name old new told = tt
+told_few (Some held) name old new told = found_few (get held name) old new told
 
 -- a file of this size was read for its head
 pub head-few : (files : Option Files) (name : List ℕ) (old new : DepotState) (size : ℕ) → IsTold files name (λ bytes. length bytes ≡ size)
     → new.reads ≤ old.reads + 1 → (size < 16 → new.reads ≡ old.reads)
-    → IfSome files (λ held. IfSome (get held name) (λ bytes. ReadsUpTo (head_reads bytes) old new))
+    → IfSome files (λ held. ReadsUpTo (reads_to_plan (get held name)) old new)
 head-few files name old new size told most unread =
-    if_told files name _ (told-weaker files name _ (λ bytes. ReadsUpTo (head_reads bytes) old new)
+    told_few files name old new (told-weaker files name _ (λ bytes. ReadsUpTo (head_reads bytes) old new)
     (λ bytes long. one_read (nat_lt (length bytes) HEAD_SIZE) (is_none (refusal_by_head (length bytes) (take 16 bytes))) (length bytes) old.reads new.reads refl most
     (λ short. unread (subst (λ (n : ℕ). n < 16) long short))) told)
 
 -- a file whose head isn't refused was read for its index
 pub index-few : (files : Option Files) (name : List ℕ) (old new : DepotState) (shape : Dimensions) → IsTold files name (HasHead shape)
     → new.reads ≤ old.reads + 2
-    → IfSome files (λ held. IfSome (get held name) (λ bytes. ReadsUpTo (head_reads bytes) old new))
+    → IfSome files (λ held. ReadsUpTo (reads_to_plan (get held name)) old new)
 index-few files name old new shape told most =
-    if_told files name _ (told-weaker files name (HasHead shape) (λ bytes. ReadsUpTo (head_reads bytes) old new)
+    told_few files name old new (told-weaker files name (HasHead shape) (λ bytes. ReadsUpTo (head_reads bytes) old new)
     (λ bytes head. let two = head_reads-taken bytes head.taken in omega (arith, most, two)) told)
+
+-- nothing was read
+pub unread-few : (files : Option Files) (name : List ℕ) (old new : DepotState) → new.reads ≡ old.reads
+    → IfSome files (λ held. ReadsUpTo (reads_to_plan (get held name)) old new)
+unread-few None name old new unread = tt
+unread-few (Some held) name old new unread = omega (arith, unread)

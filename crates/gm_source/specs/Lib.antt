@@ -1,4 +1,5 @@
 pub mod Openings
+pub mod OpeningReads
 pub mod OpeningsRules
 pub mod Fetches
 pub mod FetchesRules

@@ -177,6 +177,10 @@ edge_reads d edges (place ∷ places) =
 abbrev pub LabelsBy : List Place → DepotState → DepotState → List ℕ → Type 0
 LabelsBy places old new bytes = ReadsUpTo (edge_reads (shape_in bytes) (edges_in bytes) places) old new
 
+-- .. and just as much
+abbrev pub LabelsJust : List Place → DepotState → DepotState → List ℕ → Type 0
+LabelsJust places old new bytes = ReadsJust (edge_reads (shape_in bytes) (edges_in bytes) places) old new
+
 -- how many reads its head and its index take: none where it is too short for a head, one where that refuses it
 abbrev pub head_reads : List ℕ → ℕ
 head_reads bytes =

@@ -1,12 +1,13 @@
 //! Labelling the chunks of a grid that is opened.
 
-ghost use Rattle.std.specs.Prelude.{◌≡◌, ◌+◌, ◌<◌, ◌≤◌, ℕ, [], length, All, OnOk, OnErr, sum_by};
+ghost use Rattle.std.specs.Prelude.{◌≡◌, ◌+◌, ◌<◌, ◌≤◌, ℕ, [], length, All, IfErr, OnOk, OnErr, sum_by};
 ghost use Rattle.gm_base.specs.declared.limits.TheConstants.{MAX_CHUNK_SIZE};
 ghost use Rattle.gm_outside.specs.Frames.{OnlyReads};
 ghost use Rattle.gm_label.specs.Catalogues.{place_at, label_at, with_label};
 ghost use Rattle.gm_label.specs.Labels.{label_of};
 ghost use Rattle.gm_source.specs.Fetches.{LiesInChunk};
-ghost use Rattle.gm_source.specs.Openings.{OpensBy, ReadsJust, IsTold, HasLabelled, IsSameCut, IsSetAt, IsFreshFrom, IsPlanned, LabelsBy, chunk_reads};
+ghost use Rattle.gm_source.specs.Openings.{OpensBy, ReadsJust, IsTold, HasLabelled, IsSameCut, IsSetAt, IsFreshFrom, IsPlanned, LabelsBy, LabelsJust, chunk_reads};
+ghost use Rattle.gm_source.specs.OpeningReads.{HasStray, IsVerdict};
 
 use crate::OpenError;
 use crate::fetching::{Fetcher, count_sources, read_chunk};
@@ -63,6 +64,12 @@ impl Fetcher {
             (D.state depot.old) (D.state depot.new) }
         ensures read { OnOk result
             (ReadsJust (chunk_reads (place_at cat.old chunk)) (D.state depot.old) (D.state depot.new)) }
+        ensures refused_read { IfErr result (λ error. IsVerdict error
+            → ReadsJust (chunk_reads (place_at cat.old chunk)) (D.state depot.old) (D.state depot.new)) }
+        ensures refused { (size : ℕ)
+            → IsTold (D.state depot.old).files name.now (HasLabelled size chunk cat.old)
+            → IfErr result (λ error. IsVerdict error
+            → IsTold (D.state depot.old).files name.now (HasStray size chunk)) }
     {
         grid_by_parts();
         let first = cat.chunk(chunk).first;
@@ -98,6 +105,10 @@ impl Fetcher {
             → IsTold (D.state depot.old).files name.now (HasLabelled size 0 cat.old)
             → IsTold (D.state depot.old).files name.now
             (LabelsBy cat.old.places (D.state depot.old) (D.state depot.new)) }
+        ensures refused { (size : ℕ)
+            → IsTold (D.state depot.old).files name.now (HasLabelled size 0 cat.old)
+            → IfErr result (λ error. IsVerdict error → IsTold (D.state depot.old).files name.now
+            (LabelsJust cat.old.places (D.state depot.old) (D.state depot.new))) }
     {
         for chunk in 0..cat.chunks() {
             self.label_chunk(depot, name, chunk, cat)?;
@@ -127,6 +138,9 @@ impl Fetcher {
         ensures few_reads { IsTold (D.state depot.old).files name.now (HasLabelled chunk_size 0 cat.old)
             → IsTold (D.state depot.old).files name.now
             (LabelsBy cat.old.places (D.state depot.old) (D.state depot.new)) }
+        ensures refused { IsTold (D.state depot.old).files name.now (HasLabelled chunk_size 0 cat.old)
+            → IfErr result (λ error. IsVerdict error → IsTold (D.state depot.old).files name.now
+            (LabelsJust cat.old.places (D.state depot.old) (D.state depot.new))) }
     {
         widen(&mut self.buffer, 12 * chunk_size as usize)?;
         self.label_chunks(depot, name, cat)

@@ -2,6 +2,7 @@
 #![tactic(auto)]
 
 mod errors;
+pub mod examples;
 mod fetching;
 mod labelling;
 pub mod laws;

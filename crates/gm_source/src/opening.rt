@@ -9,7 +9,8 @@ ghost use Rattle.gm_grid.specs.GridBytes.{counts_in, counts_of_index, index_end,
 ghost use Rattle.gm_grid.specs.GridRefusals.{refusal_by_head, refusal_by_index, refusal_by_chunks};
 ghost use Rattle.gm_label.specs.Chunks.{chunks_of};
 ghost use Rattle.gm_label.specs.Catalogues.{unlabelled};
-ghost use Rattle.gm_source.specs.Openings.{OpensBy, ReadsJust, ReadsUpTo, IsTold, HasHead, HasIndex, HasLabelled, IsPlanned, IsRefusedByIndex, IsRefusedByChunks, IsCatalogueOf, head_reads, file_reads, opening_reads};
+ghost use Rattle.gm_source.specs.Openings.{OpensBy, ReadsJust, ReadsUpTo, IsTold, HasHead, HasIndex, HasLabelled, IsPlanned, IsRefusedByIndex, IsRefusedByChunks, IsCatalogueOf, opening_reads, file_reads};
+ghost use Rattle.gm_source.specs.OpeningReads.{IsVerdict, ReadsFile, reads_to_open, reads_to_plan};
 
 use crate::OpenError;
 use crate::fetching::Fetcher;
@@ -27,6 +28,8 @@ fn file_size<D: Depot>(depot: &mut D, name: &str) -> Result<u64, OpenError>
     ensures size { IfOk result (λ size.
         IsTold (D.state depot.old).files name.now (λ bytes. length bytes ≡ size)) }
     ensures unread { (D.state depot.new).reads ≡ (D.state depot.old).reads }
+    ensures missing { IfErr result (λ error. IsVerdict error
+        → IfSome (D.state depot.old).files (λ held. get held name.now ≡ None)) }
     ensures opens { (chunk_size : ℕ) → OpensBy 1 0 chunk_size name.now
         (D.state depot.old) (D.state depot.new) result }
 {
@@ -61,6 +64,9 @@ fn read_shape<D: Depot>(depot: &mut D, name: &str, size: u64) -> Result<Shape, O
     ensures long { IfOk result (λ shape. index_end shape ≤ size) }
     ensures read { OnOk result (ReadsJust 1 (D.state depot.old) (D.state depot.new)) }
     ensures short { size < 16 → (D.state depot.new).reads ≡ (D.state depot.old).reads }
+    ensures refused { (chunk_size : ℕ) → IfErr result (λ error. IsVerdict error
+        → IsTold (D.state depot.old).files name.now
+        (λ bytes. ReadsJust (file_reads chunk_size bytes) (D.state depot.old) (D.state depot.new))) }
     ensures opens { (chunk_size : ℕ) → OpensBy 0 1 chunk_size name.now
         (D.state depot.old) (D.state depot.new) result }
 {
@@ -116,6 +122,10 @@ fn read_counts<D: Depot>(
         IsTold (D.state depot.old).files name.now (HasIndex shape.now index)) }
     ensures blocks { IfOk result (λ index. length index ≡ shape.now.parts * shape.now.parts) }
     ensures read { OnOk result (ReadsJust 1 (D.state depot.old) (D.state depot.new)) }
+    ensures one_read { IfErr result (λ error. IsVerdict error
+        → ReadsJust 1 (D.state depot.old) (D.state depot.new)) }
+    ensures refused { (chunk_size : ℕ) → IfErr result (λ error. IsVerdict error
+        → IsTold (D.state depot.old).files name.now (λ bytes. file_reads chunk_size bytes ≡ 2)) }
     ensures opens { (chunk_size : ℕ) → OpensBy 0 1 chunk_size name.now
         (D.state depot.old) (D.state depot.new) result }
 {
@@ -140,8 +150,10 @@ fn read_plan<D: Depot>(
         IsTold (D.state depot.old).files name.now (HasLabelled chunk_size 0 cat)) }
     ensures chunks { IfOk result (IsPlanned chunk_size) }
     ensures read { OnOk result (ReadsJust 2 (D.state depot.old) (D.state depot.new)) }
-    ensures few_reads { IfSome (D.state depot.old).files (λ held. IfSome (get held name.now)
-        (λ bytes. ReadsUpTo (head_reads bytes) (D.state depot.old) (D.state depot.new))) }
+    ensures few_reads { IfSome (D.state depot.old).files (λ held.
+        ReadsUpTo (reads_to_plan (get held name.now)) (D.state depot.old) (D.state depot.new)) }
+    ensures refused { IfErr result (λ error. IsVerdict error → IfSome (D.state depot.old).files (λ held.
+        ReadsJust (reads_to_open chunk_size (get held name.now)) (D.state depot.old) (D.state depot.new))) }
     ensures opens { OpensBy 1 2 chunk_size name.now (D.state depot.old) (D.state depot.new) result }
 {
     let size = file_size(depot, name)?;
@@ -174,8 +186,7 @@ impl Fetcher {
             (D.state depot.old) (D.state depot.new) result }
         ensures read { IfOk result (λ cat.
             ReadsJust (opening_reads cat.places) (D.state depot.old) (D.state depot.new)) }
-        ensures few_reads { IfSome (D.state depot.old).files (λ held. IfSome (get held name.now)
-            (λ bytes. ReadsUpTo (file_reads chunk_size bytes) (D.state depot.old) (D.state depot.new))) }
+        ensures file { ReadsFile chunk_size name.now (D.state depot.old) (D.state depot.new) result }
     {
         refused_where_no_grid();
         grid_reads_back();
@@ -201,8 +212,7 @@ pub fn open_grid<D: Depot>(
         (D.state depot.old) (D.state depot.new) result }
     ensures read { IfOk result (λ cat.
         ReadsJust (opening_reads cat.places) (D.state depot.old) (D.state depot.new)) }
-    ensures few_reads { IfSome (D.state depot.old).files (λ held. IfSome (get held name.now)
-        (λ bytes. ReadsUpTo (file_reads chunk_size bytes) (D.state depot.old) (D.state depot.new))) }
+    ensures file { ReadsFile chunk_size name.now (D.state depot.old) (D.state depot.new) result }
 {
     Fetcher::new(alloc).open(depot, name, chunk_size)
 }

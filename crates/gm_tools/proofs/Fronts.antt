@@ -1,6 +1,8 @@
 -- What a reader has read of a file, and what follows of its answers.
 use Rattle.std.proofs.Common.{◌≡◌, ℕ, ◌+◌, ◌-◌, ◌*◌, ◌/◌, ◌%◌, ◌≤◌, ◌<◌, List, ◌++◌, length, take, drop, min, Option, Some, None, Ok, Err, IfSome, refl, sym, ap, subst, ◌∙◌, append_assoc, [], arith, rules, inl, inr, lit<}
-use Rattle.std.specs.Prelude.{IsSomeAnd, IsOk, Result}
+use Rattle.std.specs.Prelude.{IsSomeAnd, IsOk, MatchResult, Result}
+use Rattle.gm_commands.specs.declared.failure.Failure.{Failure}
+use Rattle.gm_commands.specs.Failures.{status_of}
 use Rattle.std.specs.Option.{option_map}
 use Rattle.std.specs.FinMap.{get}
 use Rattle.std.proofs.lemmas.Bool.{cases_lt}
@@ -16,9 +18,9 @@ use Rattle.gm_edges.specs.EdgeText.{edge_list_of, ended_edges_of}
 use Rattle.gm_edges.specs.EdgeErrors.{refusal_of, IsRefusalUnlessMemory}
 use Rattle.gm_edges.specs.ReaderStates.{ReaderState, HasRead}
 use Rattle.gm_commands.specs.declared.failure.Refusal.TheVariants.{EdgeList}
-use Rattle.gm_commands.specs.Readings.{DepotServed, IsReadingFailure}
+use Rattle.gm_commands.specs.Readings.{AsksJust, DepotServed, IsReadingFailure, Reading, rest_of_reading}
 use Rattle.gm_tools.specs.declared.edge_reading.TheConstants.{TEXT_PIECE}
-use Rattle.gm_tools.specs.EdgeReadings.{list_refusal, edges_refusal, refusal_before_piece, edges_reading, failure_by, failure_of, ListsEdges, IsFront, HasReadFront, AreLinesTaken}
+use Rattle.gm_tools.specs.EdgeReadings.{list_refusal, edges_refusal, refusal_before_piece, edges_reading, failure_by, failure_of, ListsEdges, IsFront, HasReadFront, AreLinesTaken, ReadsAtMostPieces, ReadsInPieces}
 
 -- nothing is read of a file of this size
 start_of : (size : ℕ) (found : Option (List ℕ)) → Some size ≡ option_map length found
@@ -86,10 +88,14 @@ refused_in_files : (n : ℕ) (files : Option Files) (name : List ℕ) (refusal :
 refused_in_files n None name refusal r = tt
 refused_in_files n (Some held) name refusal r = ap (edges_refusal n) r.1 ∙ ap list_refusal r.2
 
-refused_by : (n : ℕ) (name : List ℕ) (old new : DepotState) (found : Option EdgeListRefusal) → DepotServed old new
-    → IfSome old.files (Refuses n name found) → IsReadingFailure (edges_reading n name) old new (failure_by found)
-refused_by n name old new None served r = served
-refused_by n name old new (Some refusal) served r = (refl, served, refused_in_files n old.files name refusal r)
+-- such a reading that asked for so many sizes
+abbrev asking : ℕ → ℕ → List ℕ → Reading
+asking count n name = record (edges_reading n name) { files = count; asked = λ operand. count }
+
+refused_by : (count n : ℕ) (name : List ℕ) (old new : DepotState) (found : Option EdgeListRefusal) → DepotServed old new
+    → AsksJust count old new → IfSome old.files (Refuses n name found) → IsReadingFailure (asking count n name) old new (failure_by found)
+refused_by count n name old new None served asked r = served
+refused_by count n name old new (Some refusal) served asked r = (refl, served, refused_in_files n old.files name refusal r, asked)
 
 -- a front, a piece behind it and the rest are the whole file
 refused_of : (n size pos : ℕ) (text piece : List ℕ) (error : EdgeError) (found : Option (List ℕ))
@@ -120,12 +126,12 @@ refused_in n size pos text piece error (Some held) name there front decides =
 
 -- a reader's refusal at a piece is the refusal of the file
 pub refused_at_piece : (n size pos : ℕ) (name piece : List ℕ) (old new : DepotState) (error : EdgeError) (reader : ReaderState)
-    → DepotServed old new → IfSome old.files (λ held. HasBytesAt held name pos piece)
+    → DepotServed old new → AsksJust 0 old new → IfSome old.files (λ held. HasBytesAt held name pos piece)
     → ((m : ℕ) (text rest : List ℕ) → HasRead m text reader → IsRefusalUnlessMemory {A = List Edge} error (edge_list_of (text ++ piece ++ rest) m))
     → HasReadFront n old.files name size pos reader
-    → IsReadingFailure (edges_reading n name) old new (failure_of error)
-refused_at_piece n size pos name piece old new error reader served there decides front =
-    refused_by n name old new (refusal_of error) served
+    → IsReadingFailure (rest_of_reading (edges_reading n name)) old new (failure_of error)
+refused_at_piece n size pos name piece old new error reader served asked there decides front =
+    refused_by 0 n name old new (refusal_of error) served asked
     (refused_in n size pos front.text piece error old.files name there front.front (λ rest. decides n front.text rest front.read))
 
 -- what was read of a file of this size is the whole file
@@ -158,10 +164,10 @@ listed_at_end n size files name edges reader answers front =
 
 -- a refusal of a reader of the whole file is the refusal of the file
 pub refused_at_end : (n size : ℕ) (name : List ℕ) (old new : DepotState) (error : EdgeError) (reader : ReaderState) → DepotServed old new
-    → ((m : ℕ) (text : List ℕ) → HasRead m text reader → IsRefusalUnlessMemory {A = List Edge} error (edge_list_of text m))
+    → AsksJust 1 old new → ((m : ℕ) (text : List ℕ) → HasRead m text reader → IsRefusalUnlessMemory {A = List Edge} error (edge_list_of text m))
     → HasReadFront n old.files name size size reader → IsReadingFailure (edges_reading n name) old new (failure_of error)
-refused_at_end n size name old new error reader served answers front =
-    refused_by n name old new (refusal_of error) served
+refused_at_end n size name old new error reader served asked answers front =
+    refused_by 1 n name old new (refusal_of error) served asked
     (refuses n front.text old.files name error (whole_in size front.text old.files name front.front) (answers n front.text front.read))
 
 -- files that list edges aren't refused
@@ -241,3 +247,28 @@ pub unrefused_up_to : (n index reads reads_now : ℕ) (files : Option Files) (na
     → (number : ℕ) → reads + number ≤ reads_now → IfSome files (λ held. refusal_before_piece n number (get held name) ≡ None)
 unrefused_up_to n index reads reads_now files name taken few number made =
     unrefused_where_taken n number files name (taken (number - 1) (omega arith))
+
+-- calls that read nothing, and ask for no size, leave how a text was read
+few_kept : (old mid new : DepotState) (told : Option Files) (name : List ℕ) → new.reads ≡ mid.reads
+    → IfSome told (λ held. ReadsAtMostPieces old mid (get held name)) → IfSome told (λ held. ReadsAtMostPieces old new (get held name))
+few_kept old mid new None name unread few = tt
+few_kept old mid new (Some held) name unread few = of_file (get held name) few
+  where
+    of_file : (found : Option (List ℕ)) → ReadsAtMostPieces old mid found → ReadsAtMostPieces old new found
+    of_file None few = unread ∙ few
+    of_file (Some text) few = omega (arith, unread, few)
+
+pub pieces_kept : (n : ℕ) (name : List ℕ) (old mid new : DepotState) (status : ℕ) → new.sizes ≡ mid.sizes → new.reads ≡ mid.reads
+    → ReadsInPieces n name old mid status → ReadsInPieces n name old new status
+pieces_kept n name old mid new status unasked unread a = record {
+  asked = omega (arith, unasked, a.asked);
+  asked_once = λ other. unasked ∙ a.asked_once other;
+  few = few_kept old mid new old.files name unread a.few;
+  unrefused = λ number made. a.unrefused number (omega (arith, unread, made));
+}
+
+-- what holds of every status holds of that of a result
+pub matched_any : (Holds : ℕ → Type 0) (result : Result ℕ Failure) → ((status : ℕ) → Holds status)
+    → MatchResult result Holds (λ failure. Holds (status_of failure))
+matched_any Holds (Ok status) each = each status
+matched_any Holds (Err failure) each = each (status_of failure)

@@ -1,5 +1,5 @@
 -- What follows of a grid that was opened or built, where its output is written.
-use Rattle.std.proofs.Common.{◌≡◌, ℕ, List, length, Option, Some, None, Ok, Err, refl, ◌∙◌, inr}
+use Rattle.std.proofs.Common.{◌≡◌, ℕ, List, length, Option, Some, None, Ok, Err, refl, ◌∙◌, inl, inr}
 use Rattle.std.specs.Prelude.{IsSomeAnd, sum_by}
 use Rattle.std.specs.FinMap.{get}
 use Rattle.gm_outside.specs.declared.traits.Trouble.{Trouble}
@@ -12,7 +12,7 @@ use Rattle.gm_source.specs.Openings.{IsTold, IsCatalogueOf}
 use Rattle.gm_commands.specs.declared.failure.Failure.TheVariants.{OutputFailed}
 use Rattle.gm_commands.specs.Failures.{failed_by}
 use Rattle.gm_words.specs.Commands.{BuildCommand, InfoCommand}
-use Rattle.gm_commands.specs.Readings.{AreTaken, DepotServed}
+use Rattle.gm_commands.specs.Readings.{AreTaken, AsksJust, DepotServed}
 use Rattle.gm_commands.specs.Endings.{Handles, Outside}
 use Rattle.gm_base.specs.declared.edge.Edge.{Edge}
 use Rattle.gm_tools.specs.Builds.{AreEdges, MakesGrid, build_contract, output_of}
@@ -34,10 +34,11 @@ of_grid (Some held) command edges cat is law told = of_found (get held command.g
 
 -- the numbers were written, or a first part of them
 pub informed : (command : InfoCommand) (old new : Outside) (cat : Catalogue) (edges : ℕ)
-    → AreTaken (info_contract command).reading old.depot.files → IsOfGrid command old.depot.files cat edges → DepotServed old.depot new.depot
+    → AreTaken (info_contract command).reading old.depot.files → IsOfGrid command old.depot.files cat edges → DepotServed old.depot new.depot → AsksJust 1 old.depot new.depot
     → Writes {T = Unit {0}} (text_of_catalogue cat edges) old.out new.out (Ok (tt {0})) → Handles (info_contract command) old new (Ok 0)
-informed command old new cat edges unrefused is served written = record {
+informed command old new cat edges unrefused is served asked written = record {
   taken = unrefused;
+  asked = asked;
   performs = (refl, record { cat = cat; edges = edges; is = is; written = written.ok });
   served = (served, written.causes.fault.kept (λ is. cc));
   cause = tt;
@@ -45,41 +46,45 @@ informed command old new cat edges unrefused is served written = record {
 }
 
 pub informed_partly : (command : InfoCommand) (old new : Outside) (cat : Catalogue) (edges : ℕ) (trouble : Trouble)
-    → AreTaken (info_contract command).reading old.depot.files → IsOfGrid command old.depot.files cat edges → DepotServed old.depot new.depot
+    → AreTaken (info_contract command).reading old.depot.files → IsOfGrid command old.depot.files cat edges → DepotServed old.depot new.depot → AsksJust 1 old.depot new.depot
     → Writes {T = Unit {0}} (text_of_catalogue cat edges) old.out new.out (Err trouble)
     → Handles (info_contract command) old new (Err (failed_by OutputFailed trouble))
-informed_partly command old new cat edges troubles.Failed unrefused is served written = record {
+informed_partly command old new cat edges troubles.Failed unrefused is served asked written = record {
   taken = tt;
+  asked = tt;
   performs = tt;
   served = tt;
-  cause = (written.causes.fault.failed refl, unrefused, served);
+  cause = (written.causes.fault.failed refl, unrefused, served, asked);
   leaves = record { cat = cat; edges = edges; is = is; written = written.err };
 }
-informed_partly command old new cat edges troubles.Memory unrefused is served written = record {
+informed_partly command old new cat edges troubles.Memory unrefused is served asked written = record {
   taken = tt;
+  asked = tt;
   performs = tt;
   served = tt;
-  cause = (served, written.causes.fault.kept (λ is. absurd cc));
+  cause = (inl served, written.causes.fault.kept (λ is. absurd cc));
   leaves = inr (record { cat = cat; edges = edges; is = is; written = written.err });
 }
 
 -- the grid was built, and of the output only a first part was written
 pub built_partly : (command : BuildCommand) (old new : Outside) (edges : List Edge) (trouble : Trouble)
     → AreTaken (build_contract command).reading old.depot.files → AreEdges command old.depot.files edges
-    → MakesGrid command old.depot new.depot edges → DepotServed old.depot new.depot
+    → MakesGrid command old.depot new.depot edges → DepotServed old.depot new.depot → AsksJust 1 old.depot new.depot
     → Writes {T = Unit {0}} (output_of command edges) old.out new.out (Err trouble)
     → Handles (build_contract command) old new (Err (failed_by OutputFailed trouble))
-built_partly command old new edges troubles.Failed taken lists built served written = record {
+built_partly command old new edges troubles.Failed taken lists built served asked written = record {
   taken = tt;
+  asked = tt;
   performs = tt;
   served = tt;
-  cause = (written.causes.fault.failed refl, taken, served);
+  cause = (written.causes.fault.failed refl, taken, served, asked);
   leaves = record { edges = edges; lists = lists; built = built; written = written.err };
 }
-built_partly command old new edges troubles.Memory taken lists built served written = record {
+built_partly command old new edges troubles.Memory taken lists built served asked written = record {
   taken = tt;
+  asked = tt;
   performs = tt;
   served = tt;
-  cause = (served, written.causes.fault.kept (λ is. absurd cc));
+  cause = (inl served, written.causes.fault.kept (λ is. absurd cc));
   leaves = inr (inr (record { edges = edges; lists = lists; built = built; written = written.err }));
 }

@@ -67,6 +67,6 @@ build_contract command = record {
   Performs = λ old new status. (status ≡ 0) × Builds GrewBy command old new;
   most_success = 0;
   Leaves = BuildLeaves command;
-  Reads = λ old new status. ReadsInPieces command.shape.n command.edges old new;
+  Reads = ReadsInPieces command.shape.n command.edges;
   KeepsFiles = KeepsOthers command.grid;
 }

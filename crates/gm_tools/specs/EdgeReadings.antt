@@ -1,5 +1,5 @@
 -- How a build reads its file of edges: piece by piece, up to the first refused line.
-use Rattle.std.specs.Prelude.{◌≡◌, false, ℕ, ◌+◌, ◌-◌, ◌*◌, ◌≤◌, List, length, take, Option, Some, None, Result, Ok, Err, IfSome, IsSomeAnd, IsOk}
+use Rattle.std.specs.Prelude.{◌≡◌, ◌≢◌, false, ℕ, ◌+◌, ◌-◌, ◌*◌, ◌≤◌, List, length, take, Option, Some, None, Result, Ok, Err, IfSome, IsSomeAnd, IsOk}
 use Rattle.std.specs.Int.{div_ceil}
 use Rattle.std.specs.FinMap.{get}
 use Rattle.gm_base.specs.declared.edge.Edge.{Edge}
@@ -15,7 +15,7 @@ use Rattle.gm_commands.specs.declared.failure.Refusal.{Refusal}
 use Rattle.gm_commands.specs.declared.failure.Refusal.TheVariants.{Missing, EdgeList}
 use Rattle.gm_commands.specs.declared.failure.Failure.{Failure}
 use Rattle.gm_commands.specs.declared.failure.Failure.TheVariants.{Refused, OutOfMemory}
-use Rattle.gm_commands.specs.Readings.{Reading, is_operand, IsUnrefusedBefore}
+use Rattle.gm_commands.specs.Readings.{AsksJust, Reading, is_operand, IsUnrefusedBefore}
 use Rattle.gm_tools.specs.declared.edge_reading.TheConstants.{TEXT_PIECE}
 
 -- why a text lists no graph
@@ -37,6 +37,8 @@ refusal_before_piece n number (Some text) = list_refusal (ended_edges_of (take (
 abbrev pub edges_reading : ℕ → List ℕ → Reading
 edges_reading n name = record {
   reads = is_operand Edges;
+  files = 1;
+  asked = λ operand. 1;
   refusal = λ files. edges_refusal n (get files name);
   refusal_before = λ operand number files. refusal_before_piece n number (get files name);
   fetches = false;
@@ -47,10 +49,11 @@ abbrev pub ReadsAtMostPieces : DepotState → DepotState → Option (List ℕ) �
 ReadsAtMostPieces old new None = new.reads ≡ old.reads
 ReadsAtMostPieces old new (Some text) = new.reads ≤ old.reads + div_ceil (length text) TEXT_PIECE
 
--- The file's size is asked for once at most. It is read by at most as many reads as it has pieces, up to and with the one in which its
--- first refused line ends.
-pub record ReadsInPieces (n : ℕ) (name : List ℕ) (old new : DepotState) : Type 0 where
+-- The file's size is asked for once, by a command that ends with this status: at most once after want of memory. It is read by at most as many
+-- reads as it has pieces, up to and with the one in which its first refused line ends.
+pub record ReadsInPieces (n : ℕ) (name : List ℕ) (old new : DepotState) (status : ℕ) : Type 0 where
   pub asked : new.sizes ≤ old.sizes + 1
+  pub asked_once : status ≢ 8 → AsksJust 1 old new
   pub few : IfSome old.files (λ held. ReadsAtMostPieces old new (get held name))
   pub unrefused : IsUnrefusedBefore (edges_reading n name) old new Edges
 

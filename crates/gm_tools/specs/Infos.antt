@@ -8,7 +8,7 @@ use Rattle.gm_label.specs.Catalogues.{Catalogue}
 use Rattle.gm_source.specs.Openings.{IsTold, IsCatalogueOf}
 use Rattle.gm_words.specs.Commands.{InfoCommand}
 use Rattle.gm_commands.specs.Endings.{CommandContract, KeepsAllFiles, LeavesPart, Outside}
-use Rattle.gm_tools.specs.Grids.{OpensFew, grid_reading}
+use Rattle.gm_tools.specs.Grids.{OpensGrid, grid_reading}
 
 -- what is written of a grid: its size, its edges, its chunks, and the pairs of all labels
 unfoldable pub info_text : ℕ → ℕ → ℕ → ℕ → ℕ → List ℕ
@@ -41,6 +41,6 @@ info_contract command = record {
   Performs = λ old new status. (status ≡ 0) × Informs GrewBy command old new;
   most_success = 0;
   Leaves = LeavesPart (Informs GrewByPrefix command);
-  Reads = λ old new status. OpensFew command.grid command.chunk old new;
+  Reads = OpensGrid command.grid command.chunk;
   KeepsFiles = KeepsAllFiles;
 }

@@ -7,7 +7,8 @@ use Rattle.gm_outside.specs.Files.{Files}
 use Rattle.gm_outside.specs.FramesRules.{only_reads-none, only_reads-more}
 use Rattle.gm_outside.specs.States.{DepotState}
 use Rattle.gm_words.specs.Commands.{Command, BuildCommand, InfoCommand, run, build, info}
-use Rattle.gm_source.specs.Openings.{ReadsUpTo, file_reads}
+use Rattle.gm_source.specs.Openings.{ReadsUpTo}
+use Rattle.gm_source.specs.OpeningReads.{reads_to_open}
 use Rattle.gm_build.specs.Blocks.{built_file}
 use Rattle.gm_commands.specs.declared.failure.Failure.{Failure}
 use Rattle.gm_commands.specs.declared.failure.Failure.TheVariants.{Refused, ReadFailed, WriteFailed, OutputFailed, OutOfMemory}
@@ -30,13 +31,9 @@ few_pieces before (Some held) name = of_file (get held name)
     of_file (Some text) = omega arith
 
 few_chunks : (before : DepotState) (told : Option Files) (name : List ℕ) (size : ℕ)
-    → IfSome told (λ held. IfSome (get held name) (λ bytes. ReadsUpTo (file_reads size bytes) before before))
+    → IfSome told (λ held. ReadsUpTo (reads_to_open size (get held name)) before before)
 few_chunks before None name size = tt
-few_chunks before (Some held) name size = of_file (get held name)
-  where
-    of_file : (found : Option (List ℕ)) → IfSome found (λ bytes. ReadsUpTo (file_reads size bytes) before before)
-    of_file None = tt
-    of_file (Some bytes) = omega arith
+few_chunks before (Some held) name size = omega arith
 
 -- nothing is refused before the first read
 unrefused : (n number : ℕ) (told : Option Files) (name : List ℕ) → number ≡ 0 → IfSome told (λ held. refusal_before_piece n number (get held name) ≡ None)
@@ -53,6 +50,7 @@ build-allows_nothing command = record {
   leaves = λ before. inl (writes_nothing-none before);
   reads = λ before. record {
     asked = omega arith;
+    asked_once = λ other. absurd (other refl);
     few = few_pieces before before.files command.edges;
     unrefused = λ number made. unrefused command.shape.n number before.files command.edges (omega arith);
   };
@@ -93,7 +91,9 @@ info-allows_nothing command = record {
       few = omega arith;
       frame = only_reads-more 0 0 (2 + MAX_CHUNKS) before before (omega arith) (only_reads-none before);
     };
+    asked = λ other. absurd (other refl);
     few = few_chunks before before.files command.grid command.chunk;
+    exact = λ served other. absurd (other refl);
   };
   keeps = λ before. (refl, refl);
 }

@@ -1,10 +1,10 @@
 //! One build: the edges of the text, the grid's file and the output.
 
-ghost use Rattle.std.specs.Prelude.{◌≡◌, ◌≤◌};
+ghost use Rattle.std.specs.Prelude.{◌≡◌, ◌≤◌, MatchResult};
 ghost use Rattle.gm_outside.specs.Causes.{counted};
 ghost use Rattle.gm_words.specs.Commands.{build_said};
 ghost use Rattle.gm_commands.specs.Endings.{outside, Handles};
-ghost use Rattle.gm_tools.specs.EdgeReadings.{ReadsInPieces};
+ghost use Rattle.gm_commands.specs.Failures.{status_of};
 ghost use Rattle.gm_tools.specs.Builds.{output_text, build_contract};
 
 use crate::edge_reading::list_edges;
@@ -40,9 +40,13 @@ pub fn run_build<D: Depot, K: Sink>(
     depot: &mut D,
     out: &mut K,
 ) -> Result<u8, Failure>
-    ensures handles { Handles (build_contract (build_said command.now)) (outside (D.state depot.old) (K.state out.old))
+    ensures handles { Handles (build_contract (build_said command.now))
+        (outside (D.state depot.old) (K.state out.old))
         (outside (D.state depot.new) (K.state out.new)) result }
-    ensures pieces { ReadsInPieces command.now.shape.n command.now.edges.now (D.state depot.old) (D.state depot.new) }
+    ensures reads { MatchResult result
+        ((build_contract (build_said command.now)).Reads (D.state depot.old) (D.state depot.new))
+        (λ failure. (build_contract (build_said command.now)).Reads (D.state depot.old) (D.state depot.new)
+        (status_of failure)) }
     ensures asked { (D.state depot.new).sizes ≡ counted (D.state depot.old).sizes }
     ensures faults { (D.state depot.old).faults ≤ (D.state depot.new).faults }
     ensures out_faults { (K.state out.old).faults ≤ (K.state out.new).faults }

@@ -7,7 +7,7 @@ ghost use Rattle.gm_base.specs.Graph.{IsGraph};
 ghost use Rattle.gm_outside.specs.declared.traits.TheConstants.{MAX_COUNT};
 ghost use Rattle.gm_outside.specs.Files.{size_of};
 ghost use Rattle.gm_outside.specs.Frames.{OnlyReads};
-ghost use Rattle.gm_commands.specs.Readings.{DepotServed, IsReadingFailure, IsUnrefusedBefore, ReadsFiles};
+ghost use Rattle.gm_commands.specs.Readings.{DepotServed, IsReadingFailure, IsUnrefusedBefore, ReadsFiles, rest_of_reading};
 ghost use Rattle.gm_tools.specs.EdgeReadings.{failure_of, edges_reading, ListsEdges, HasReadFront, AreLinesTaken, ReadsInPieces};
 
 use gm_base::Edges;
@@ -41,12 +41,14 @@ fn read_piece<D: Depot>(
     reader: &mut EdgeReader,
 ) -> Result<(), Failure>
     ensures front { (n size : ℕ) → HasReadFront n (D.state depot.old).files name.now size pos reader.old
-        → OnOk result (HasReadFront n (D.state depot.old).files name.now size (pos + length into.old) reader.new) }
+        → OnOk result (HasReadFront n (D.state depot.old).files name.now size (pos + length into.old)
+        reader.new) }
     ensures lines { (n size : ℕ) → HasReadFront n (D.state depot.old).files name.now size pos reader.old
         → OnOk result (AreLinesTaken n (D.state depot.old).files name.now (pos + length into.old)) }
     ensures err { (n size : ℕ) → HasReadFront n (D.state depot.old).files name.now size pos reader.old
         → pos + length into.old ≤ size
-        → IfErr result (IsReadingFailure (edges_reading n name.now) (D.state depot.old) (D.state depot.new)) }
+        → IfErr result (IsReadingFailure (rest_of_reading (edges_reading n name.now))
+        (D.state depot.old) (D.state depot.new)) }
     ensures served { OnOk result (DepotServed (D.state depot.old) (D.state depot.new)) }
     ensures frame { OnlyReads 0 1 (D.state depot.old) (D.state depot.new) }
 {
@@ -73,10 +75,13 @@ fn read_text<D: Depot>(
     requires some_vertex { 1 ≤ n }
     requires vertices { n ≤ MAX_VERTICES }
     requires size { IfSome (D.state depot.old).files (λ files. Some size ≡ size_of files name.now) }
-    ensures front { IfOk result (λ reader. HasReadFront n (D.state depot.old).files name.now size size reader) }
+    ensures front { IfOk result (λ reader.
+        HasReadFront n (D.state depot.old).files name.now size size reader) }
     ensures served { OnOk result (DepotServed (D.state depot.old) (D.state depot.new)) }
-    ensures err { IfErr result (IsReadingFailure (edges_reading n name.now) (D.state depot.old) (D.state depot.new)) }
-    ensures unrefused { IsUnrefusedBefore (edges_reading n name.now) (D.state depot.old) (D.state depot.new) Operand.Edges }
+    ensures err { IfErr result (IsReadingFailure (rest_of_reading (edges_reading n name.now))
+        (D.state depot.old) (D.state depot.new)) }
+    ensures unrefused { IsUnrefusedBefore (edges_reading n name.now)
+        (D.state depot.old) (D.state depot.new) Operand.Edges }
     ensures frame { OnlyReads 0 (div_ceil size TEXT_PIECE) (D.state depot.old) (D.state depot.new) }
 {
     let mut reader = EdgeReader::new(alloc, n);
@@ -97,12 +102,14 @@ pub(crate) fn list_edges<D: Depot>(
 ) -> Result<Edges, Failure>
     requires some_vertex { 1 ≤ n }
     requires vertices { n ≤ MAX_VERTICES }
-    ensures lists { IfSome (D.state depot.old).files (λ files. IfOk result (λ edges. ListsEdges files name.now n edges)) }
+    ensures lists { IfSome (D.state depot.old).files (λ files.
+        IfOk result (λ edges. ListsEdges files name.now n edges)) }
     ensures graph { IfOk result (λ edges. IsGraph n edges) }
     ensures few { IfOk result (λ edges. length edges ≤ MAX_EDGES) }
     ensures frame { OnlyReads 1 MAX_COUNT (D.state depot.old) (D.state depot.new) }
-    ensures reads { ReadsFiles 1 MAX_COUNT (edges_reading n name.now) (D.state depot.old) (D.state depot.new) result }
-    ensures pieces { ReadsInPieces n name.now (D.state depot.old) (D.state depot.new) }
+    ensures reads { ReadsFiles 1 MAX_COUNT (edges_reading n name.now)
+        (D.state depot.old) (D.state depot.new) result }
+    ensures pieces { (status : ℕ) → ReadsInPieces n name.now (D.state depot.old) (D.state depot.new) status }
 {
     let size = file_size(depot, name, Operand::Edges)?;
     let mut buffer = zeros(alloc, TEXT_PIECE)?;

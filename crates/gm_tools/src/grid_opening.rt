@@ -1,11 +1,12 @@
 //! The grid of a command, opened chunk by chunk.
 
-ghost use Rattle.std.specs.Prelude.{◌≡◌, ◌+◌, ◌≤◌, IfOk};
+ghost use Rattle.std.specs.Prelude.{◌≡◌, ◌+◌, ◌≤◌, IfOk, MatchResult};
 ghost use Rattle.gm_base.specs.declared.limits.TheConstants.{MAX_CHUNKS, MAX_CHUNK_SIZE};
 ghost use Rattle.gm_outside.specs.Frames.{OnlyReads};
 ghost use Rattle.gm_source.specs.Openings.{IsTold, IsCatalogueOf, ReadsJust, opening_reads};
+ghost use Rattle.gm_commands.specs.Failures.{status_of};
 ghost use Rattle.gm_commands.specs.Readings.{ReadsFiles};
-ghost use Rattle.gm_tools.specs.Grids.{OpensFew, grid_reading, opening_failure};
+ghost use Rattle.gm_tools.specs.Grids.{OpensGrid, grid_reading, opening_failure};
 
 use gm_commands::{Failure, Operand, Refusal};
 use gm_label::Catalogue;
@@ -40,7 +41,10 @@ pub fn load_grid<D: Depot>(
     ensures read { IfOk result (λ cat.
         ReadsJust (opening_reads cat.places) (D.state depot.old) (D.state depot.new)) }
     ensures frame { OnlyReads 1 (2 + MAX_CHUNKS) (D.state depot.old) (D.state depot.new) }
-    ensures few { OpensFew name.now chunk_size (D.state depot.old) (D.state depot.new) }
+    ensures opens { MatchResult result
+        (λ _. OpensGrid name.now chunk_size (D.state depot.old) (D.state depot.new) 0)
+        (λ failure. OpensGrid name.now chunk_size (D.state depot.old) (D.state depot.new)
+        (status_of failure)) }
     ensures reads { ReadsFiles 1 (2 + MAX_CHUNKS) (grid_reading name.now chunk_size)
         (D.state depot.old) (D.state depot.new) result }
 {

@@ -1,11 +1,11 @@
 //! One info: the grid's numbers.
 
-ghost use Rattle.std.specs.Prelude.{◌≡◌, ◌+◌, ◌≤◌, sum_by};
+ghost use Rattle.std.specs.Prelude.{◌≡◌, ◌+◌, ◌≤◌, MatchResult, sum_by};
 ghost use Rattle.gm_base.specs.declared.limits.TheConstants.{MAX_CHUNKS, MAX_CHUNK_SIZE};
 ghost use Rattle.gm_outside.specs.Frames.{OnlyReads};
 ghost use Rattle.gm_words.specs.Commands.{info_said};
 ghost use Rattle.gm_commands.specs.Endings.{outside, Handles};
-ghost use Rattle.gm_tools.specs.Grids.{OpensFew};
+ghost use Rattle.gm_commands.specs.Failures.{status_of};
 ghost use Rattle.gm_tools.specs.Infos.{info_contract, info_text, text_of_catalogue};
 
 use crate::grid_opening::load_grid;
@@ -57,10 +57,14 @@ pub fn run_info<D: Depot, K: Sink>(
 ) -> Result<u8, Failure>
     requires some { 1 ≤ command.now.chunk }
     requires short { command.now.chunk ≤ MAX_CHUNK_SIZE }
-    ensures handles { Handles (info_contract (info_said command.now)) (outside (D.state depot.old) (K.state out.old))
+    ensures handles { Handles (info_contract (info_said command.now))
+        (outside (D.state depot.old) (K.state out.old))
         (outside (D.state depot.new) (K.state out.new)) result }
     ensures frame { OnlyReads 1 (2 + MAX_CHUNKS) (D.state depot.old) (D.state depot.new) }
-    ensures chunks { OpensFew command.now.grid.now command.now.chunk (D.state depot.old) (D.state depot.new) }
+    ensures reads { MatchResult result
+        ((info_contract (info_said command.now)).Reads (D.state depot.old) (D.state depot.new))
+        (λ failure. (info_contract (info_said command.now)).Reads (D.state depot.old) (D.state depot.new)
+        (status_of failure)) }
     ensures out_faults { (K.state out.old).faults ≤ (K.state out.new).faults }
 {
     catalogued_files_are_grids();

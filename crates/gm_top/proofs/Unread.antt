@@ -1,27 +1,29 @@
 -- A call that ends before its words are read keeps the promises: it lacks memory, and leaves all as it was.
-use Rattle.std.specs.Prelude.{◌≡◌, ◌+◌, ◌≤◌, ◌⊎◌, List, ℕ, Option, Some, None, IfSome, refl}
+use Rattle.std.specs.Prelude.{◌≡◌, ◌≤◌, ◌⊎◌, Option, Some, None, IfSome, refl}
 use Rattle.std.proofs.Common.{ap, inl, inr, arith}
-use Rattle.std.specs.FinMap.{get}
 use Rattle.gm_outside.specs.Files.{Files}
 use Rattle.gm_outside.specs.FramesRules.{only_reads-none}
 use Rattle.gm_outside.specs.States.{DepotState}
-use Rattle.gm_source.specs.Openings.{ReadsUpTo, file_reads}
+use Rattle.gm_commands.specs.declared.failure.Refusal.{Refusal}
+use Rattle.gm_tools.specs.Grids.{grid_reading}
 use Rattle.gm_words.specs.Commands.{Command, RunCommand, run, build, info, command_of}
 use Rattle.gm_commands.specs.Endings.{CommandCall, HasFailed, IsComplete, LacksWords, Outside}
 use Rattle.gm_commands.specs.EndingsRules.{AllowsNothing, lacks_words-failed, lacks_words-reads, lacks_words-keeps, lacks_words-complete}
 use Rattle.gm_tools.specs.ToolsRules.{writes_nothing-none, build-allows_nothing, info-allows_nothing}
-use Rattle.gm_top.specs.RunEndings.{IsRefusal, OpenedFew, RanFew, contract_of, run_contract}
+use Rattle.gm_top.specs.RunEndings.{IsRefusal, OpenedFew, RanFew, StopsAtGrid, contract_of, run_contract}
 use Rattle.gm_top.specs.Promises.{KeepsPromises}
 
 -- no read was made, so the grid's opening took no more than it may
 opened : (before : DepotState) (command : RunCommand) (told : Option Files)
     → IfSome told (λ held. OpenedFew command before before held ⊎ RanFew command before before held)
 opened before command None = tt
-opened before command (Some held) = inl (of_file (get held command.grid))
-  where
-    of_file : (found : Option (List ℕ)) → IfSome found (λ bytes. ReadsUpTo (file_reads command.chunk bytes + 1) before before)
-    of_file None = tt
-    of_file (Some bytes) = omega arith
+opened before command (Some held) = inl (omega arith)
+
+stopped : (before : DepotState) (command : RunCommand) (told : Option Files)
+    → IfSome told (λ held. (refusal : Refusal) → (grid_reading command.grid command.chunk).refusal held ≡ Some refusal
+    → StopsAtGrid command before before 8 held)
+stopped before command None = tt
+stopped before command (Some held) = λ refusal is. record { few = omega arith; exact = λ served other. absurd (other refl) }
 
 no_refusal : IsRefusal 8 → ⊥
 no_refusal is = let high : 8 ≤ 6 = is.high in omega (arith, high)
@@ -37,6 +39,7 @@ run-allows_nothing command = record {
     whole = opened before command before.files;
     refused = λ is. absurd (no_refusal is);
     refused_told = λ is. absurd (no_refusal is);
+    refused_grid = stopped before command before.files;
   };
   keeps = λ before. (refl, refl);
 }

@@ -9,17 +9,17 @@ ghost use Rattle.gm_job_run.specs.JobLines.{AreLinesOfJobs, FaultsOf, IsTold, Ru
 ghost use Rattle.gm_grid.specs.GridBytes.{edges_in};
 ghost use Rattle.gm_source.specs.Openings.{opening_reads, ReadsJust, ReadsUpTo};
 ghost use Rattle.gm_source.specs.Fetches.{TellsGrid};
-ghost use Rattle.gm_commands.specs.Readings.{AreTaken, ReadsFiles};
+ghost use Rattle.gm_commands.specs.Readings.{AreTaken, AsksJust, ReadsFiles};
 ghost use Rattle.gm_jobs.specs.JobBounds.{IsScriptOver};
 ghost use Rattle.gm_job_run.specs.JobRuns.{ReadsSome};
 ghost use Rattle.gm_words.specs.Commands.{run_said};
 ghost use Rattle.gm_commands.specs.Endings.{outside, Handles};
 ghost use Rattle.gm_commands.specs.Failures.{status_of};
-ghost use Rattle.gm_top.specs.RunEndings.{OpenedFew, ReadsRun, IsRunFailure, run_contract};
+ghost use Rattle.gm_top.specs.RunEndings.{OpenedFew, ReadsRun, StopsWhereRefused, IsRunFailure, run_contract};
 ghost use Rattle.gm_top.specs.RunReports.{AreReported, is_failed, status_after};
 ghost use Rattle.gm_top.specs.RunReadings.{IsRefusalOrMemory, jobs_text_refusal, jobs_reading, files_reading, run_reading, HoldsRun, TellsJobs, StatesJobs};
 
-use gm_base::{JobLine, Memory, Outcome};
+use gm_base::{JobLine, Outcome};
 use gm_commands::{Failure, FileText, Operand, Refusal, read_file};
 use gm_grid::laws::grid_reads_back;
 use gm_job_run::run_script;
@@ -34,7 +34,7 @@ use gm_source::laws::catalogues_are_over_their_edges;
 use gm_tools::load_grid;
 use gm_versions::laws::snapshots_are_graphs;
 use gm_words::RunCommand;
-use std::alloc::Global;
+use std::alloc::{AllocError, Global};
 use std::sync::Arc;
 
 /// The script of a text, for a graph of n vertices.
@@ -63,12 +63,14 @@ fn load_script<D: Depot>(
     n: u32,
 ) -> Result<Script, Failure>
     requires { (1 ≤ n) × (n ≤ MAX_VERTICES) }
-    ensures tells { IfSome (D.state depot.old).files (λ files. IfOk result (λ script. TellsJobs files command.now.jobs.now n (jobs_of script))) }
+    ensures tells { IfSome (D.state depot.old).files (λ files.
+        IfOk result (λ script. TellsJobs files command.now.jobs.now n (jobs_of script))) }
     ensures states { IfOk result (λ script. StatesJobs n (jobs_of script)) }
     ensures over { IfOk result (IsScriptOver n) }
     ensures read { OnOk result (ReadsJust 1 (D.state depot.old) (D.state depot.new)) }
     ensures frame { OnlyReads 1 1 (D.state depot.old) (D.state depot.new) }
-    ensures reads { ReadsFiles 1 1 (jobs_reading (run_said command.now) n) (D.state depot.old) (D.state depot.new) result }
+    ensures reads { ReadsFiles 1 1 (jobs_reading (run_said command.now) n)
+        (D.state depot.old) (D.state depot.new) result }
 {
     let text = match read_file(
         alloc,
@@ -94,14 +96,21 @@ fn load<D: Depot>(
     command: &RunCommand<'_>,
 ) -> Result<(Catalogue, Script), Failure>
     requires { (1 ≤ command.now.chunk) × (command.now.chunk ≤ MAX_CHUNK_SIZE) }
-    ensures holds { IfOk result (λ loaded. IfSome (D.state depot.old).files (λ files. HoldsRun (run_said command.now) files loaded.0 (jobs_of loaded.1))) }
+    ensures holds { IfOk result (λ loaded. IfSome (D.state depot.old).files (λ files.
+        HoldsRun (run_said command.now) files loaded.0 (jobs_of loaded.1))) }
     ensures states { IfOk result (λ loaded. StatesJobs loaded.0.dimensions.n (jobs_of loaded.1)) }
     ensures over { IfOk result (λ loaded. IsScriptOver loaded.0.dimensions.n loaded.1) }
     ensures read { IfOk result (λ loaded.
         ReadsJust (suc (opening_reads loaded.0.places)) (D.state depot.old) (D.state depot.new)) }
     ensures frame { OnOk result (OnlyReads 2 (3 + MAX_CHUNKS) (D.state depot.old) (D.state depot.new)) }
-    ensures few { IfSome (D.state depot.old).files (OpenedFew (run_said command.now) (D.state depot.old) (D.state depot.new)) }
-    ensures reads { ReadsFiles 2 (3 + MAX_CHUNKS) (files_reading (run_said command.now)) (D.state depot.old) (D.state depot.new) result }
+    ensures few { IfSome (D.state depot.old).files
+        (OpenedFew (run_said command.now) (D.state depot.old) (D.state depot.new)) }
+    ensures stops { MatchResult result
+        (λ _. StopsWhereRefused (run_said command.now) (D.state depot.old) (D.state depot.new) 0)
+        (λ failure. StopsWhereRefused (run_said command.now) (D.state depot.old) (D.state depot.new)
+        (status_of failure)) }
+    ensures reads { ReadsFiles 2 (3 + MAX_CHUNKS) (files_reading (run_said command.now))
+        (D.state depot.old) (D.state depot.new) result }
 {
     grid_reads_back();
     let cat = load_grid(alloc, depot, command.grid, command.chunk)?;
@@ -119,22 +128,25 @@ fn run_loaded<D: Depot>(
     script: Script,
 ) -> Result<Vec<JobLine>, Failure>
     requires over { IsScriptOver cat.dimensions.n script }
-    ensures lines { IfOk result (λ lines. AreLinesOfJobs (λ job outcome. IsTold outcome) (jobs_of script) lines.items) }
+    ensures lines { IfOk result (λ lines.
+        AreLinesOfJobs (λ job outcome. IsTold outcome) (jobs_of script) lines.items) }
     ensures ends { (bytes : List ℕ) → TellsGrid (D.state depot.old).files name.now cat bytes
-        → IfOk result (λ lines. RunOver cat (edges_in bytes) (D.state depot.old) (D.state depot.new) (jobs_of script) lines.items) }
+        → IfOk result (λ lines. RunOver cat (edges_in bytes) (D.state depot.old) (D.state depot.new)
+        (jobs_of script) lines.items) }
     ensures few { (bytes : List ℕ) → TellsGrid (D.state depot.old).files name.now cat bytes
-        → ReadsUpTo (runs_weight cat (edges_in bytes) (jobs_of script)) (D.state depot.old) (D.state depot.new) }
-    ensures faults { IfOk result (λ lines. FaultsOf lines.items (D.state depot.old).faults (D.state depot.new).faults) }
+        → ReadsUpTo (runs_weight cat (edges_in bytes) (jobs_of script))
+        (D.state depot.old) (D.state depot.new) }
+    ensures faults { IfOk result (λ lines.
+        FaultsOf lines.items (D.state depot.old).faults (D.state depot.new).faults) }
     ensures memory { IfErr result (λ failure. failure ≡ Failure.OutOfMemory) }
     ensures frame { ReadsSome (D.state depot.old) (D.state depot.new) }
 {
-    let Ok(cat) = Arc::new(alloc, cat) else {
-        return Err(Failure::OutOfMemory);
+    let cat = match Arc::new(alloc, cat) {
+        Ok(cat) => cat,
+        Err(error) => return Err(AllocError::from(error).into()),
     };
-    match run_script(alloc, depot, name, &cat, script) {
-        Ok(lines) => Ok(lines),
-        Err(Memory) => Err(Failure::OutOfMemory),
-    }
+    let lines = run_script(alloc, depot, name, &cat, script)?;
+    Ok(lines)
 }
 
 /// The lines of the command's jobs.
@@ -144,11 +156,15 @@ fn compute<D: Depot>(
     command: &RunCommand<'_>,
 ) -> Result<Vec<JobLine>, Failure>
     requires { (1 ≤ command.now.chunk) × (command.now.chunk ≤ MAX_CHUNK_SIZE) }
-    ensures lines { IfOk result (λ lines. AreReported (run_said command.now) (D.state depot.old) (D.state depot.new) lines.items) }
+    ensures lines { IfOk result (λ lines.
+        AreReported (run_said command.now) (D.state depot.old) (D.state depot.new) lines.items) }
     ensures taken { OnOk result (AreTaken (run_reading (run_said command.now)) (D.state depot.old).files) }
+    ensures asked { OnOk result (AsksJust 2 (D.state depot.old) (D.state depot.new)) }
     ensures err { IfErr result (IsRunFailure (run_said command.now) (D.state depot.old) (D.state depot.new)) }
-    ensures reads { MatchResult result (λ _. ReadsRun (run_said command.now) (D.state depot.old) (D.state depot.new) 0)
-        (λ failure. ReadsRun (run_said command.now) (D.state depot.old) (D.state depot.new) (status_of failure)) }
+    ensures reads { MatchResult result
+        (λ _. ReadsRun (run_said command.now) (D.state depot.old) (D.state depot.new) 0)
+        (λ failure. ReadsRun (run_said command.now) (D.state depot.old) (D.state depot.new)
+        (status_of failure)) }
 {
     grid_reads_back();
     jobs_settle_by_round_n();
@@ -189,11 +205,14 @@ pub(crate) fn run<D: Depot, K: Sink>(
     out: &mut K,
 ) -> Result<u8, Failure>
     requires { (1 ≤ command.now.chunk) × (command.now.chunk ≤ MAX_CHUNK_SIZE) }
-    ensures handles { Handles (run_contract (run_said command.now)) (outside (D.state depot.old) (K.state out.old))
+    ensures handles { Handles (run_contract (run_said command.now))
+        (outside (D.state depot.old) (K.state out.old))
         (outside (D.state depot.new) (K.state out.new)) result }
     ensures status { IfOk result (λ status. status ≤ 1) }
-    ensures reads { MatchResult result (ReadsRun (run_said command.now) (D.state depot.old) (D.state depot.new))
-        (λ failure. ReadsRun (run_said command.now) (D.state depot.old) (D.state depot.new) (status_of failure)) }
+    ensures reads { MatchResult result
+        (ReadsRun (run_said command.now) (D.state depot.old) (D.state depot.new))
+        (λ failure. ReadsRun (run_said command.now) (D.state depot.old) (D.state depot.new)
+        (status_of failure)) }
     ensures out_faults { (K.state out.old).faults ≤ (K.state out.new).faults }
 {
     let lines = compute(alloc, depot, command)?;

@@ -5,7 +5,9 @@ use Rattle.gm_grid.specs.GridBytes.{index_size, counts_of_index}
 use Rattle.gm_source.specs.Openings.{AreBytes}
 use Rattle.gm_source.specs.OpeningsRules.{opens_by-index}
 use Rattle.gm_source.proofs.Told.{told-weaker, told-both}
-use Rattle.gm_source.proofs.Heads.{bad_index, good_index}
+use Rattle.gm_grid.specs.GridRefusals.{refusal_by_index}
+use Rattle.gm_source.proofs.Heads.{bad_index, good_index, indexed}
+use Rattle.gm_source.proofs.ExactReads.{file_reads-index, index_verdict}
 use Rattle.gm_source.proofs.opening.read_counts.Goals as goal
 
 -- room that was filled whole is what it was filled with
@@ -39,5 +41,21 @@ returns-clause-opens g c chunk_size =
     c.in-Err.ensures.refused
     (λ e refused. told-weaker files name _ _
     (λ bytes told. bad_index chunk_size c.args.size c.args.shape.now c.deref-2.result.now bytes e whole refused told)
+    (told-both files name _ _ (told-both files name _ _ c.requires.size c.requires.head)
+    (subst (λ (piece : List ℕ). IfSome files (λ held. HasBytesAt held name 16 piece)) (sym is) read.bytes))))
+
+pub returns-clause-refused : goal.returns-clause-refused
+returns-clause-refused g c chunk_size =
+    let read = c.in_ok-read_at.ensures in
+    let files = (g.D.Depot.state c.args.depot.now).files in
+    let name = c.args.name.now in
+    let is : c.deref-2.result.now ≡ c.read_at.new.into =
+    c.deref-2.ensures.value ∙ filled c.in_ok-bytes.bytes.len c.read_at.new.into c.in_ok-bytes.bytes.items (omega (arith, c.read_at.auto.into, c.deref_mut.ensures.len)) in
+    let whole : length c.deref-2.result.now ≡ index_size c.args.shape.now = omega (arith, ap (λ (piece : List ℕ). length piece) is, c.read_at.auto.into, c.deref_mut.ensures.len, c.in_ok-bytes.ensures) in
+    rw c.into.ensures (λ verdict. index_verdict files name chunk_size c.args.size (counts_of_index c.deref-2.result.now) c.in-Err.error verdict
+    c.in-Err.ensures.refused
+    (λ e refused. told-weaker files name _ _
+    (λ bytes told. let i = indexed c.args.size c.args.shape.now c.deref-2.result.now bytes whole told in
+    file_reads-index chunk_size bytes e i.head.taken ((λ j. refusal_by_index (i.long j) (sym i.counts_are j)) ∙ refused))
     (told-both files name _ _ (told-both files name _ _ c.requires.size c.requires.head)
     (subst (λ (piece : List ℕ). IfSome files (λ held. HasBytesAt held name 16 piece)) (sym is) read.bytes))))

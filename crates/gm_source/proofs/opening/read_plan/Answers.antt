@@ -1,6 +1,7 @@
 use Rattle.std.proofs.Common.{◌≡◌, ◌+◌, ℕ, List, length, Option, Some, Result, sym, ap, subst, ◌∙◌, arith}
 use Rattle.std.specs.Prelude.{Ok}
 use Rattle.std.proofs.lemmas.Result.{err_from_is_err_and}
+use Rattle.gm_outside.specs.Causes.{counted_times}
 use Rattle.gm_outside.specs.States.{DepotState}
 use Rattle.gm_outside.specs.Files.{Files}
 use Rattle.gm_outside.specs.Frames.{OnlyReads}
@@ -12,7 +13,9 @@ use Rattle.gm_source.specs.OpeningsRules.{opens_by-then, opens_by-served, opens_
 use Rattle.gm_source.proofs.Told.{told-weaker}
 use Rattle.gm_source.proofs.Heads.{few_chunks, refused_chunks}
 use Rattle.gm_source.proofs.LabelledChunks.{labelled-none, planned-chunks}
-use Rattle.gm_source.proofs.RefusalReads.{head-few, index-few}
+use Rattle.gm_source.specs.Openings.{ReadsJust, file_reads}
+use Rattle.gm_source.proofs.RefusalReads.{head-few, index-few, unread-few}
+use Rattle.gm_source.proofs.ExactReads.{file_reads-chunks, missing_just, plan_verdict, told_just, two_just}
 use Rattle.gm_source.proofs.opening.read_plan.Goals as goal
 
 -- a call after one that was served
@@ -141,3 +144,55 @@ returns-clause-few_reads g c =
     let second = (c.read_counts.ensures.opens c.args.chunk_size).frame.reads in
     index-few _ c.args.name.now (g.D.Depot.state c.args.depot.now) (g.D.Depot.state c.read_counts.new.depot) c.in_ok-shape.shape
     (subst (λ (f : Option Files). IsTold f c.args.name.now (HasHead c.in_ok-shape.shape)) kept c.in_ok-shape.ensures.head) (omega (arith, unread, first, second))
+
+pub returns-in_err-size-clause-few_reads : goal.returns-in_err-size-clause-few_reads
+returns-in_err-size-clause-few_reads g c = unread-few _ c.args.name.now (g.D.Depot.state c.args.depot.now) (g.D.Depot.state c.file_size.new.depot) c.file_size.ensures.unread
+
+pub returns-in_err-size-clause-refused : goal.returns-in_err-size-clause-refused
+returns-in_err-size-clause-refused g c =
+    let p = err_from_is_err_and c.from_residual.result c.from_residual.ensures.1 in
+    rw p.1 (rw p.2 (λ verdict. missing_just c.args.chunk_size _ c.args.name.now (g.D.Depot.state c.args.depot.now) (g.D.Depot.state c.file_size.new.depot)
+    c.file_size.ensures.unread (c.in_err-size.ensures.missing verdict)))
+
+pub returns-in_err-shape-clause-refused : goal.returns-in_err-shape-clause-refused
+returns-in_err-shape-clause-refused g c =
+    let p = err_from_is_err_and c.from_residual-in_err-shape.result c.from_residual-in_err-shape.ensures.1 in
+    let size = c.args.chunk_size in
+    let name = c.args.name.now in
+    let old = g.D.Depot.state c.args.depot.now in
+    let new = g.D.Depot.state c.read_shape.new.depot in
+    let kept = (c.file_size.ensures.opens size).frame.files in
+    rw p.1 (rw p.2 (λ verdict. told_just size old.files name old new
+    (subst (λ (f : Option Files). IsTold f name (λ bytes. ReadsJust (file_reads size bytes) old new)) kept
+    (told-weaker _ name _ _ (λ bytes just. just ∙ ap (counted_times (file_reads size bytes)) c.file_size.ensures.unread)
+    (c.in_err-shape.ensures.refused size verdict)))))
+
+pub returns-in_err-index-clause-refused : goal.returns-in_err-index-clause-refused
+returns-in_err-index-clause-refused g c =
+    let p = err_from_is_err_and c.from_residual-in_err-index.result c.from_residual-in_err-index.ensures.1 in
+    let size = c.args.chunk_size in
+    let name = c.args.name.now in
+    let old = g.D.Depot.state c.args.depot.now in
+    let new = g.D.Depot.state c.read_counts.new.depot in
+    let kept = (c.read_shape.ensures.opens size).frame.files ∙ (c.file_size.ensures.opens size).frame.files in
+    rw p.1 (rw p.2 (λ verdict. told_just size old.files name old new
+    (two_just size old.files name old new
+    (c.in_err-index.ensures.one_read verdict ∙ ap (counted_times 1) (c.in_ok-shape.ensures.read ∙ ap (counted_times 1) c.file_size.ensures.unread))
+    (subst (λ (f : Option Files). IsTold f name (λ bytes. file_reads size bytes ≡ 2)) kept (c.in_err-index.ensures.refused size verdict)))))
+
+pub returns-clause-refused : goal.returns-clause-refused
+returns-clause-refused g c =
+    let size = c.args.chunk_size in
+    let name = c.args.name.now in
+    let old = g.D.Depot.state c.args.depot.now in
+    let new = g.D.Depot.state c.read_counts.new.depot in
+    let kept = (c.read_shape.ensures.opens size).frame.files ∙ (c.file_size.ensures.opens size).frame.files in
+    rw c.into.ensures (λ verdict. told_just size old.files name old new
+    (two_just size old.files name old new
+    (c.in_ok-index.ensures.read ∙ ap (counted_times 1) (c.in_ok-shape.ensures.read ∙ ap (counted_times 1) c.file_size.ensures.unread))
+    (plan_verdict old.files name size c.counts.result.now c.in-Err.error verdict
+    (refused_chunks size c.counts.result.now c.plan.result c.in-Err.error c.in-Err.is c.plan.ensures.refused)
+    (λ e refused. subst (λ (f : Option Files). IsTold f name (λ bytes. file_reads size bytes ≡ 2)) kept
+    (told-weaker _ name _ _
+    (λ bytes index. file_reads-chunks size bytes e index.head.taken index.taken (ap (refusal_by_chunks size) (sym index.is ∙ sym c.counts.ensures) ∙ refused))
+    c.in_ok-index.ensures.index)))))

@@ -14,4 +14,4 @@ pub returns-in-Err-feed-clause-err : goal.returns-in-Err-feed-clause-err
 returns-in-Err-feed-clause-err g c n size front within =
     rw c.failure_of.ensures
     (refused_at_piece n size c.args.pos c.args.name.now c.read_at.new.into (g.D.Depot.state c.args.depot.now) (g.D.Depot.state c.read_at.new.self)
-    c.in-Err-feed.error c.args.reader.now (c.in-Ok.ensures.cause.kept (λ is. cc)) c.in-Ok.ensures.bytes c.in-Err-feed.ensures.decides front)
+    c.in-Err-feed.error c.args.reader.now (c.in-Ok.ensures.cause.kept (λ is. cc)) c.in-Ok.ensures.frame.sizes c.in-Ok.ensures.bytes c.in-Err-feed.ensures.decides front)

@@ -3,6 +3,7 @@ use Rattle.std.proofs.lemmas.List.{length-take}
 use Rattle.std.proofs.lemmas.Result.{err_from_is_err_and}
 use Rattle.gm_outside.specs.Files.{Files}
 use Rattle.gm_outside.specs.FramesRules.{only_reads-then}
+use Rattle.gm_commands.specs.Readings.{rest_of_reading}
 use Rattle.gm_commands.specs.ReadingsRules.{reading_failure-later}
 use Rattle.gm_tools.specs.declared.edge_reading.TheConstants.{TEXT_PIECE}
 use Rattle.gm_tools.specs.EdgeReadings.{edges_reading, HasReadFront, AreLinesTaken}
@@ -41,8 +42,9 @@ returns-in_err-read_piece-clause-err g c =
     let within : index * TEXT_PIECE + length (take c.min-count.result c.loop-index.buffer) ≤ size =
     rw length-take (omega (arith, c.min-count.ensures, piece_start index size below)) in
     rw p.1 (rw p.2 (reading_failure-later (g.D.Depot.state c.args.depot.now) (g.D.Depot.state c.loop-index.depot)
-    (g.D.Depot.state c.read_piece.new.depot) (edges_reading c.args.n c.args.name.now) _ i.1.files i.1.calm i.2
+    (g.D.Depot.state c.read_piece.new.depot) (rest_of_reading (edges_reading c.args.n c.args.name.now)) _ i.1.files i.1.calm i.2
     (λ operand reads. unrefused_up_to c.args.n index _ _ _ c.args.name.now i.3 (omega (arith, i.1.reads, c.read_piece.ensures.frame.reads)))
+    (λ operand. i.1.sizes)
     (c.in_err-read_piece.ensures.err c.args.n size at within)))
 
 pub returns-in_err-read_piece-clause-unrefused : goal.returns-in_err-read_piece-clause-unrefused

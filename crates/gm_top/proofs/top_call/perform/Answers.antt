@@ -9,6 +9,16 @@ returns-in-Run-clause-handles g c = rw c.in-Run.is c.run.ensures.handles
 pub returns-in-Run-clause-reads : goal.returns-in-Run-clause-reads
 returns-in-Run-clause-reads g c = rw c.in-Run.is c.run.ensures.reads
 
+pub returns-in-Info-clause-handles : goal.returns-in-Info-clause-handles
+returns-in-Info-clause-handles g c = rw c.in-Info.is c.run_info.ensures.handles
+
+pub returns-in-Info-clause-reads : goal.returns-in-Info-clause-reads
+returns-in-Info-clause-reads g c = rw c.in-Info.is c.run_info.ensures.reads
+
+pub returns-in-Build-clause-reads : goal.returns-in-Build-clause-reads
+returns-in-Build-clause-reads g c =
+    rw c.in-Build.is c.run_build.ensures.reads
+
 pub returns-in-Build-clause-files : goal.returns-in-Build-clause-files
 returns-in-Build-clause-files g c =
     rw c.in-Build.is (build-keeps_others (build_said c.in-Build.command)

@@ -8,7 +8,7 @@ use Rattle.gm_source.specs.Fetches.{LiesInChunk}
 use Rattle.gm_source.specs.OpeningsRules.{opens_by-grid, opens_by-trouble}
 use Rattle.gm_source.proofs.Decoding.{none_of_test}
 use Rattle.gm_source.proofs.Fetched.{whole}
-use Rattle.gm_source.proofs.LabelledChunks.{chunk-labelled, chunk-refused, chunk-in_range}
+use Rattle.gm_source.proofs.LabelledChunks.{chunk-labelled, chunk-refused, chunk-stray, chunk-in_range}
 use Rattle.gm_source.proofs.fetching.Fetcher.label_chunk.Goals as goal
 
 pub set_label_of-requires-clause-count : goal.set_label_of-requires-clause-count
@@ -43,3 +43,8 @@ returns-in_err-stray-clause-opens g c size labelled =
     let read = c.in_err-stray.ensures in
     rw p.1 (rw p.2 (opens_by-trouble _ _ _ size c.args.name.now _ _ _ c.read_chunk.ensures.frame read.cause read.calm_range (g.met.D.Depot.calm_tells c.args.depot.now)
     (chunk-in_range (g.D.Depot.state c.args.depot.now).files c.args.name.now size c.args.chunk c.args.cat.now c.requires.within c.grid_by_parts.ensures.sizes labelled)))
+
+pub returns-then-is_some-clause-refused : goal.returns-then-is_some-clause-refused
+returns-then-is_some-clause-refused g c size labelled verdict =
+    chunk-stray (g.D.Depot.state c.args.depot.now).files c.args.name.now size c.args.chunk c.args.cat.now c.read_chunk.new.edges.items c.in_ok-stray.stray
+    c.requires.within c.in_ok-stray.ensures.reads (sym c.is_some.ensures ∙ c.if-is_some.true) labelled

@@ -6,6 +6,7 @@ use Rattle.gm_source.specs.Openings.{chunk_reads, reads_before}
 use Rattle.gm_source.specs.OpeningsRules.{opens_by-more, opens_by-served}
 use Rattle.gm_source.proofs.LabelledChunks.{labels-next, labels-refused}
 use Rattle.gm_source.proofs.RefusalReads.{labels-few}
+use Rattle.gm_source.proofs.ExactReads.{labels-just}
 use Rattle.gm_source.proofs.fetching.Fetcher.label_chunks.Goals as goal
 
 pub loop-chunk-preserved : goal.loop-chunk-preserved
@@ -36,3 +37,12 @@ returns-in_err-label_chunk-clause-few_reads g c size told =
 pub returns-clause-few_reads : goal.returns-clause-few_reads
 returns-clause-few_reads g c size told =
     labels-few _ _ (g.D.Depot.state c.loop-chunk.depot) size c.args.name.now _ _ c.loop-chunk.chunk c.loop-chunk.invariant (omega arith) told
+
+pub returns-in_err-label_chunk-clause-refused : goal.returns-in_err-label_chunk-clause-refused
+returns-in_err-label_chunk-clause-refused g c size told =
+    let p = err_from_is_err_and c.from_residual.result c.from_residual.ensures.1 in
+    let k = c.loop-chunk.chunk in
+    rw p.1 (rw p.2 (λ verdict. labels-just _ _ (g.D.Depot.state c.label_chunk.new.depot) size c.args.name.now _ _ k
+    (omega (arith, c.loop-chunk-test.true, c.chunks-chunk-end.ensures.value)) c.loop-chunk.invariant
+    (c.in_err-label_chunk.ensures.refused_read verdict) told
+    (λ labelled. c.in_err-label_chunk.ensures.refused size labelled verdict)))
