@@ -1,9 +1,13 @@
 pub mod Bounds
+pub mod Choices
+pub mod Ends
 pub mod Following
 pub mod Held
 pub mod InVisits
 pub mod Instance
 pub mod Lists
+pub mod Missed
 pub mod Planning
+pub mod Scheduled
 pub mod Soundness
 pub mod Theorems

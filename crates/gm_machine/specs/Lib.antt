@@ -3,4 +3,5 @@ pub mod JobWorks
 pub mod Machine
 pub mod Plans
 pub mod Promises
+pub mod Schedules
 pub mod Setups
