@@ -70,10 +70,10 @@ rest_above all one rest sum is = omega arith
 only_rest : (all one rest : ℕ) → all ≡ one + rest → one ≡ 0 → 0 < all → 0 < rest
 only_rest all one rest sum is some = omega arith
 
-abbrev one_if : Bool → ℕ
+abbrev pub one_if : Bool → ℕ
 one_if b = cond b 1 0
 
-counted : {X : Type 0} (p : X → Bool) (x : X) (xs : List X) → count_by p (x ∷ xs) ≡ cond (p x) 1 0 + count_by p xs
+pub counted : {X : Type 0} (p : X → Bool) (x : X) (xs : List X) → count_by p (x ∷ xs) ≡ cond (p x) 1 0 + count_by p xs
 counted p x xs = sum_by-cons (λ y. cond (p y) 1 0) x xs
 
 some_count : {X : Type 0} (p : X → Bool) (xs : List X) → list_any p xs ≡ true → 0 < count_by p xs

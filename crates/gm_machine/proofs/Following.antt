@@ -111,7 +111,7 @@ module _ {State : Type 0} (Midway : ℕ → Entry State → Type 0) (s : Setup S
   opened_alive c n (Works e) rests = absurd (true≢false rests)
   opened_alive c n (Over o) rests = tt
 
-  opened_ready : (c n : ℕ) (st : Stage State) → is_riding st ≡ false → IsReady s c [] n (boarded s c n st)
+  pub opened_ready : (c n : ℕ) (st : Stage State) → is_riding st ≡ false → IsReady s c [] n (boarded s c n st)
   opened_ready c n (Runs e) rests = by_test (s.owes n e c) (λ t. IsReady s c [] n (cond t (Waits e) (Runs e))) (λ _. tt) (λ _. tt)
   opened_ready c n (Waits e) rests = absurd (true≢false rests)
   opened_ready c n (Works e) rests = absurd (true≢false rests)
@@ -124,7 +124,7 @@ module _ {State : Type 0} (Midway : ℕ → Entry State → Type 0) (s : Setup S
   some_of_eq None c h = absurd (true≢false (sym h))
   some_of_eq (Some d) c h = ap Some (eqb-true d c h)
 
-  all_rest : (jobs : List (Job State)) → list_any (λ job. is_riding job.stage) jobs ≡ false → AllStages (λ n st. is_riding st ≡ false) jobs
+  pub all_rest : (jobs : List (Job State)) → list_any (λ job. is_riding job.stage) jobs ≡ false → AllStages (λ n st. is_riding st ≡ false) jobs
   all_rest jobs none = stages_fail (λ job. is_riding job.stage) (λ n st. is_riding st ≡ false) (λ job r. r) jobs none
 
   in_opened : (now d c : ℕ) (vs : List Ridden) (jobs : List (Job State)) → list_any (λ job. is_riding job.stage) jobs ≡ false → AllStages (Fine d) jobs

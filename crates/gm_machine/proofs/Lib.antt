@@ -1,13 +1,17 @@
 pub mod Bounds
 pub mod Choices
+pub mod Counting
 pub mod Ends
 pub mod Following
 pub mod Held
 pub mod InVisits
 pub mod Instance
+pub mod KeyLists
 pub mod Lists
 pub mod Missed
 pub mod Planning
 pub mod Scheduled
 pub mod Soundness
+pub mod Tallies
+pub mod TallyLaws
 pub mod Theorems

@@ -73,7 +73,7 @@ module _ {State : Type 0} where
   numbered_more n (one ∷ jobs) job h e = (h.0, numbered_more (suc n) jobs job h.1 (omega arith))
 
   -- no job has a number from before
-  none_before : (j n : ℕ) (P : Job State → Bool) (jobs : List (Job State)) → j < n → Numbered n jobs → list_any (λ job. eqb job.number j && P job) jobs ≡ false
+  pub none_before : (j n : ℕ) (P : Job State → Bool) (jobs : List (Job State)) → j < n → Numbered n jobs → list_any (λ job. eqb job.number j && P job) jobs ≡ false
   none_before j n P [] below h = refl
   none_before j n P (job ∷ jobs) below h =
       let other : eqb job.number j ≡ false = ne_eqb job.number j (λ e. omega arith) in

@@ -181,7 +181,7 @@ module _ {State : Type 0} (s : Setup State) where
   -- ---- a key without a copy
 
   -- a job that rides with a key
-  rider_found : (v : Ridden) (k : Key) (n : ℕ) (st : Stage State) → rides_at s v.chunk k n st ≡ true → IsListed v n st × IsAlive s v.miss v.chunk n st → HasRider (rider n k) v.riders
+  pub rider_found : (v : Ridden) (k : Key) (n : ℕ) (st : Stage State) → rides_at s v.chunk k n st ≡ true → IsListed v n st × IsAlive s v.miss v.chunk n st → HasRider (rider n k) v.riders
   rider_found v k n (Runs e) rides h = absurd (true≢false (sym rides))
   rider_found v k n (Waits e) rides h = subst (λ (l : Key). HasRider (rider n l) v.riders) (same_key-true (key_in s v.chunk n e) k rides) h.0
   rider_found v k n (Works e) rides h = subst (λ (l : Key). HasRider (rider n l) v.riders) (same_key-true (key_in s v.chunk n e) k rides) h.0

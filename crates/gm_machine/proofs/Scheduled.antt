@@ -8,18 +8,20 @@ use Rattle.gm_base.specs.declared.copies.Key.{Key}
 use Rattle.gm_jobs.specs.declared.script.Line.{Line}
 use Rattle.gm_events.specs.declared.event.Event.{Event}
 use Rattle.gm_events.specs.declared.event.LoadCause.{LoadCause}
+use Rattle.gm_events.specs.Journals.{tally_of}
 use Rattle.gm_priority.specs.Priority.{rows_with, pick_of}
 use Rattle.gm_machine.specs.Setups.{Entry, Setup, EntryLaws, jobs_in}
 use Rattle.gm_machine.specs.Machine.{Ending, Own, ReadFailed, ChangedFound, NoMemory, Stage, Runs, Waits, Works, Over, Job, Miss, no_miss, Ridden, Scene, beginning, chunk_now, may, done, is_legal_from, scene_of, IsLegal}
 use Rattle.gm_machine.specs.Plans.{fits_plan, is_planned_from, IsPlanned, Place, Stands, Gone, Planned, Plan, is_there, none_there, plan_after, plan_of, misses_by_visit}
 use Rattle.gm_machine.specs.Promises.{AllStages, Among, EndsWith, seen, gone, Has, IsToldBy, IsAtEnd, IsAloneOrMissed, EndsRider, HasVisitsOf, HasOutcomeIn, HasOutcomesOf, HasOnlyVisitsOf}
-use Rattle.gm_machine.specs.Schedules.{Missing, MissAt, miss_in, misses_to, whole_plan, visit_at, keys_ridden, names, can_miss, Schedule, ending_at, endings, schedule_in, schedule_if, schedule_of, IsOver, missing_by, missed_at, misses_in, misses_of, AreFrom}
+use Rattle.gm_machine.specs.Schedules.{Missing, MissAt, miss_in, misses_to, whole_plan, visit_at, keys_ridden, names, can_miss, Schedule, ending_at, endings, schedule_in, schedule_if, schedule_of, IsOver, missing_by, missed_at, misses_in, misses_of, AreFrom, tally_by}
 use Rattle.gm_machine.proofs.Lists.{by_test, eqb_refl, stages_weaker, stages_both, Numbered}
 use Rattle.gm_machine.proofs.Soundness.{IsFine, IsFineEnding, sound}
 use Rattle.gm_machine.proofs.Bounds.{Measured, total_of, visits_bounded}
 use Rattle.gm_machine.proofs.Following.{none_next}
 use Rattle.gm_machine.proofs.Planning.{all_in-visits, visits_are_planned, outcomes_are_planned, end_is_planned}
 use Rattle.gm_machine.proofs.Missed.{FitsBy, FitsMiss, IsEndedIn, IsOwnOrMissed, knows_misses}
+use Rattle.gm_machine.proofs.TallyLaws.{tally_closed, tally_reversed}
 use Rattle.gm_machine.proofs.Ends.{plan_of_backed, over_at_most}
 
 -- ---- misses by number
@@ -300,3 +302,11 @@ module _ {State : Type 0} (Midway : ℕ → Entry State → Type 0) (s : Setup S
       let count : length backed.jobs + 0 ≡ jobs_in s.script = ap (λ (ls : List Line). length backed.jobs + jobs_in ls) (sym none_left) ∙ backed.backs.count in
       let lengths : length (endings plan.jobs) ≡ length backed.jobs = ends_count plan.jobs over.jobs ∙ ap length (sym backed.backs.seen) ∙ planned_count backed.jobs in
       ap (λ (t : Schedule). length t.outcomes) (sym (is_of_plan misses schedule is)) ∙ omega (arith, lengths, count)
+
+  -- the tally of a journal at its end is that of the schedule
+  pub has_tally : (journal : List Event) (schedule : Schedule) → IsPlanned s journal → IsAtEnd s (scene_of s journal) → schedule_of s (misses_of s journal) ≡ Some schedule → tally_of journal ≡ tally_by schedule.visits
+  has_tally journal schedule ok end is =
+      let is_legal = legal s journal ok in
+      let visits = has_only_visits journal [] schedule ok tt end is in
+      tally_closed Midway s laws journal is_legal (sound Midway s laws journal is_legal) end.visits
+      ∙ sym (tally_reversed Midway s laws (scene_of s journal).visits) ∙ ap tally_by (sym visits)

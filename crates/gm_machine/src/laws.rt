@@ -1,17 +1,18 @@
 //! What holds of every legal journal, and of every planned one, whatever the jobs compute.
 
-ghost use Rattle.std.specs.Prelude.{◌≡◌, ◌≤◌, ℕ, true, List, ◌++◌, length, Some, IsSome};
+ghost use Rattle.std.specs.Prelude.{◌≡◌, ◌≤◌, ℕ, true, false, List, ◌++◌, length, Some, IsSome};
 ghost use Rattle.gm_events.specs.declared.event.Event.{Event};
+ghost use Rattle.gm_events.specs.Journals.{tally_of};
 ghost use Rattle.gm_events.specs.declared.event.Event.TheVariants.{Passed};
 ghost use Rattle.gm_jobs.specs.declared.script.Line.{Line};
 ghost use Rattle.gm_jobs.specs.StatedJobs.{jobs_of};
 ghost use Rattle.gm_kernel.specs.Standings.{Standing};
 ghost use Rattle.gm_machine.specs.JobWorks.{JobWorks, Laws, most_visits};
 ghost use Rattle.gm_machine.specs.Setups.{setup_of, jobs_in, IsMidwayEntry};
-ghost use Rattle.gm_machine.specs.Machine.{Miss, IsLegal, may, scene_of};
+ghost use Rattle.gm_machine.specs.Machine.{Miss, IsLegal, may, is_open, scene_of};
 ghost use Rattle.gm_machine.specs.Plans.{IsPlanned, plan_of};
 ghost use Rattle.gm_machine.specs.Promises.{AllStages, IsMidwayOrLone, Apart, keys_of, AreHeldForRiders, IsNew};
-ghost use Rattle.gm_machine.specs.Schedules.{MissAt, Schedule, schedule_of, whole_plan, IsOver, misses_of, AreFrom};
+ghost use Rattle.gm_machine.specs.Schedules.{MissAt, Schedule, schedule_of, whole_plan, IsOver, misses_of, AreFrom, tally_by};
 ghost use Rattle.gm_machine.specs.Promises.{IsAloneOrMissed, HasVisitsOf, HasOutcomesOf, HasOnlyVisitsOf};
 ghost use Rattle.gm_machine.specs.Promises.{BeginsPlan, HasPlannedOutcomes, IsAtEnd, IsWholePlan};
 
@@ -133,6 +134,20 @@ pub fn journals_keep_to_their_schedule<J: LawfulJobs>()
         IsPlanned s journal → AreFrom (length (scene_of s journal).visits) more → IsAtEnd s (scene_of s journal)
         → schedule_of s (more ++ misses_of s journal) ≡ Some schedule
         → HasOnlyVisitsOf schedule (scene_of s journal) }
+{
+    a_block_is_picked_where_rows_have_one();
+}
+
+/// A law: where no visit of a legal journal is open, its tally is that of its visits: the riders without a miss have passed, and each
+/// of their keys was copied once. So the tally of a planned journal that is at its end is that of the schedule of its misses.
+pub fn tallies_are_scheduled<J: LawfulJobs>()
+    ensures visits { (case : J.Case) (journal : List Event) → let s = setup_of (J.works case) (J.script case) in
+        IsLegal s journal → is_open (scene_of s journal) ≡ false
+        → tally_of journal ≡ tally_by (scene_of s journal).visits }
+    ensures schedule { (case : J.Case) (journal : List Event) (schedule : Schedule)
+        → let s = setup_of (J.works case) (J.script case) in
+        IsPlanned s journal → IsAtEnd s (scene_of s journal) → schedule_of s (misses_of s journal) ≡ Some schedule
+        → tally_of journal ≡ tally_by schedule.visits }
 {
     a_block_is_picked_where_rows_have_one();
 }
