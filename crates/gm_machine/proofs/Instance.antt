@@ -1,5 +1,5 @@
 -- The laws of a script's jobs are those of the machine's entries, and their phases bound the visits.
-use Rattle.std.proofs.Common.{◌≡◌, ℕ, zero, suc, ◌+◌, ◌<◌, ◌≤◌, ◌*◌, List, [], ◌∷◌, length, sym, ap, ◌∙◌, refl, subst, arith}
+use Rattle.std.proofs.Common.{◌≡◌, ℕ, zero, suc, ◌+◌, ◌<◌, ◌≤◌, ◌*◌, List, [], ◌∷◌, length, sym, ap, ◌∙◌, refl, subst, ◌⊎◌, inl, inr, ⊎_elim, arith}
 use Rattle.gm_changes.specs.declared.change.Change.{Change}
 use Rattle.gm_jobs.specs.declared.script.Line.{Line}
 use Rattle.gm_jobs.specs.declared.script.Line.TheVariants.{Update, Wait, Job as JobLine}
@@ -7,11 +7,12 @@ use Rattle.gm_jobs.specs.StatedJobs.{jobs_of, jobs_below}
 use Rattle.gm_events.specs.declared.event.Event.{Event}
 use Rattle.gm_kernel.specs.Standings.{Standing, Turning}
 use Rattle.gm_kernel.specs.Standings.Turning.{Goes, Ends}
-use Rattle.gm_machine.specs.JobWorks.{JobWorks, IsTurnedAs, HasLeft, Laws, phases_of, most_visits}
+use Rattle.gm_machine.specs.JobWorks.{JobWorks, IsTurnedAs, HasLeft, TurnsOn, Laws, phases_of, most_visits}
 use Rattle.gm_machine.specs.Setups.{Entry, standing, map_turned, jobs_in, IsTurnedWell, OwesOne, EntryLaws, setup_of, turned_with, IsMidwayEntry}
 use Rattle.gm_machine.specs.Machine.{Job, scene_of, IsLegal}
 use Rattle.gm_machine.proofs.Lists.{Numbered}
 use Rattle.gm_machine.proofs.Soundness.{sound}
+use Rattle.gm_machine.proofs.Riding.{Onward}
 use Rattle.gm_machine.proofs.Bounds.{Measured, total_of, visits_bounded}
 
 below-length : (number : ℕ) (above : List (List Change)) (lines : List Line) → length (jobs_below number above lines) ≡ jobs_in lines
@@ -40,6 +41,22 @@ module _ {State : Type 0} (w : JobWorks State) (lines : List Line) (M : ℕ → 
   goes_owing n (Goes st) (Ends o) on h is = absurd h
   goes_owing n (Ends o) (Goes e) on h is = absurd h
   goes_owing n (Ends o) (Ends p) on h is = cc
+
+  turn_leads : (n : ℕ) (s : Standing) (at : Turning Standing) (t : Turning State) (on : Entry State) → IsTurnedAs w M n at t → TurnsOn w n s at → turned_with at t ≡ Goes on
+      → (on.at ≡ s) ⊎ (w.phases_left n on.at.phase < w.phases_left n s.phase)
+  turn_leads n s (Goes st) (Goes e) on h leads is = at_goes is (⊎_elim (λ same. inl same) (λ less. inr less.1) leads)
+    where
+      at_goes : {f g : Entry State} → (Goes f ≡ Goes g) → (f.at ≡ s) ⊎ (w.phases_left n f.at.phase < w.phases_left n s.phase) → (g.at ≡ s) ⊎ (w.phases_left n g.at.phase < w.phases_left n s.phase)
+      at_goes {f = f} {g = g} is h = let e : f ≡ g = cc in subst (λ (x : Entry State). (x.at ≡ s) ⊎ (w.phases_left n x.at.phase < w.phases_left n s.phase)) e h
+  turn_leads n s (Goes st) (Ends o) on h leads is = absurd h
+  turn_leads n s (Ends o) (Goes e) on h leads is = absurd h
+  turn_leads n s (Ends o) (Ends p) on h leads is = cc
+
+  pub onward : Onward (setup_of w lines) (IsMidwayEntry M) w.phases_left
+  onward = record {
+    turns_on = λ n e on here is. turn_leads n e.at (w.turn_at n e.at) (w.turn n e.work) on (laws.turns n e.at e.work here) (laws.turns_on n e.at e.work here) is;
+    owed_after = λ n c x st. laws.owed_after n c x st;
+  }
 
   pub script_jobs : w.jobs ≡ jobs_in lines
   script_jobs = many ∙ jobs_count lines

@@ -10,6 +10,7 @@ pub mod KeyLists
 pub mod Lists
 pub mod Missed
 pub mod Planning
+pub mod Riding
 pub mod Scheduled
 pub mod Soundness
 pub mod Tallies

@@ -3,5 +3,6 @@ pub mod JobWorks
 pub mod Machine
 pub mod Plans
 pub mod Promises
+pub mod Rides
 pub mod Schedules
 pub mod Setups

@@ -12,6 +12,7 @@ ghost use Rattle.gm_machine.specs.Setups.{setup_of, jobs_in, IsMidwayEntry};
 ghost use Rattle.gm_machine.specs.Machine.{Miss, IsLegal, may, is_open, scene_of};
 ghost use Rattle.gm_machine.specs.Plans.{IsPlanned, plan_of};
 ghost use Rattle.gm_machine.specs.Promises.{AllStages, IsMidwayOrLone, Apart, keys_of, AreHeldForRiders, IsNew};
+ghost use Rattle.gm_machine.specs.Rides.{rides_of, first_rides_of, NoneTwice};
 ghost use Rattle.gm_machine.specs.Schedules.{MissAt, Schedule, schedule_of, whole_plan, IsOver, misses_of, AreFrom, tally_by};
 ghost use Rattle.gm_machine.specs.Promises.{IsAloneOrMissed, HasVisitsOf, HasOutcomesOf, HasOnlyVisitsOf};
 ghost use Rattle.gm_machine.specs.Promises.{BeginsPlan, HasPlannedOutcomes, IsAtEnd, IsWholePlan};
@@ -151,3 +152,15 @@ pub fn tallies_are_scheduled<J: LawfulJobs>()
 {
     a_block_is_picked_where_rows_have_one();
 }
+
+/// A law: no job of a legal journal rides twice to a chunk in one phase. So the first riders of its visits, one for each, differ in
+/// their job, their phase or their chunk.
+pub fn rides_are_apart<J: LawfulJobs>()
+    ensures all { (case : J.Case) (journal : List Event) → let s = setup_of (J.works case) (J.script case) in
+        IsLegal s journal → NoneTwice (rides_of s journal) }
+    ensures first { (case : J.Case) (journal : List Event) → let s = setup_of (J.works case) (J.script case) in
+        IsLegal s journal → NoneTwice (first_rides_of s journal) }
+    ensures one_a_visit { (case : J.Case) (journal : List Event)
+        → let s = setup_of (J.works case) (J.script case) in
+        IsLegal s journal → length (first_rides_of s journal) ≡ length (scene_of s journal).visits }
+{}
