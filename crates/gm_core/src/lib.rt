@@ -4,3 +4,4 @@
 pub mod examples;
 pub mod laws;
 pub mod lockstep;
+pub mod lockstep_examples;

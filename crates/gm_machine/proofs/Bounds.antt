@@ -14,7 +14,6 @@ use Rattle.gm_buffer.specs.Keys.{is_same_key}
 use Rattle.gm_machine.specs.Setups.{Entry, Setup, EntryLaws, jobs_in}
 use Rattle.gm_machine.specs.Machine.{Ending, NoMemory, ending_by, Stage, Runs, Waits, Works, Over, Job, Ridden, Scene, beginning, is_riding, is_working, is_owing, is_open, key_in, chunk_now, at_stage, boarded, given, has_passed, ended_where, stage_after, new_job, jobs_with, may, done, scene_from, is_legal_from, scene_of, IsLegal, lose, fail}
 use Rattle.gm_machine.specs.Promises.{AllStages}
-use Rattle.gm_machine.specs.Promises.{AllStages}
 use Rattle.gm_machine.proofs.Lists.{by_test, IsAmong}
 use Rattle.gm_machine.proofs.Soundness.{IsFine, Sound, begins_sound, step_sound, is_among}
 
@@ -44,7 +43,7 @@ module _ {State : Type 0} (Midway : ℕ → Entry State → Type 0) (s : Setup S
   abbrev Good : ℕ → ℕ → Stage State → Type 0
   Good c n st = IsFine Midway s laws c n st
 
-  totals_after : (f : ℕ → Stage State → Stage State) (jobs : List (Job State)) → total_of total (map (at_stage f) jobs) ≡ total_of total jobs
+  pub totals_after : (f : ℕ → Stage State → Stage State) (jobs : List (Job State)) → total_of total (map (at_stage f) jobs) ≡ total_of total jobs
   totals_after f [] = refl
   totals_after f (job ∷ jobs) = ap (λ t. total job.number + t) (totals_after f jobs)
 
@@ -56,7 +55,7 @@ module _ {State : Type 0} (Midway : ℕ → Entry State → Type 0) (s : Setup S
       let rest = left_after c f each jobs h.1 in
       omega arith
 
-  turned_left : (n : ℕ) (e : Entry State) (t : Turning (Entry State)) → Midway n e → s.turn n e ≡ t → left_at n (stage_after t) ≤ left n e
+  pub turned_left : (n : ℕ) (e : Entry State) (t : Turning (Entry State)) → Midway n e → s.turn n e ≡ t → left_at n (stage_after t) ≤ left n e
   turned_left n e (Goes on) h is = measured.turns n e on h is
   turned_left n e (Ends o) h is = omega arith
 
@@ -118,7 +117,7 @@ module _ {State : Type 0} (Midway : ℕ → Entry State → Type 0) (s : Setup S
   total_push [] job = omega arith
   total_push (one ∷ jobs) job = let rest = total_push jobs job in omega arith
 
-  submit_left : (v : ℕ) (line : Option Line) (jobs : List (Job State)) → IsAmong s line (length jobs) → v + left_of jobs ≤ total_of total jobs → v + left_of (jobs_with s line jobs) ≤ total_of total (jobs_with s line jobs)
+  pub submit_left : (v : ℕ) (line : Option Line) (jobs : List (Job State)) → IsAmong s line (length jobs) → v + left_of jobs ≤ total_of total jobs → v + left_of (jobs_with s line jobs) ≤ total_of total (jobs_with s line jobs)
   submit_left v None jobs within h = h
   submit_left v (Some (Update batch)) jobs within h = h
   submit_left v (Some (Wait k)) jobs within h = h

@@ -13,8 +13,7 @@ use Rattle.gm_events.specs.declared.event.Event.TheVariants.{Submit, Visit, Load
 use Rattle.gm_buffer.specs.Keys.{is_same_key}
 use Rattle.gm_machine.specs.Setups.{Entry, standing, past, map_turned, Setup, EntryLaws, jobs_in}
 use Rattle.gm_machine.specs.Machine.{Ending, NoMemory, ending_by, Stage, Runs, Waits, Works, Over, Job, Rider, Miss, no_miss, Ridden, Scene, beginning, is_empty, is_whole, is_running, is_working, is_waiting, is_riding, is_owing, is_owing_at, is_open, is_settled, key_in, rides_at, rides_with, has_key, chunk_now, rider, rider_if, rider_at, riders_of, lose, fail, at_stage, boarded, given, has_passed, ended_where, stage_after, new_job, jobs_with, may, done, scene_from, scene_of}
-use Rattle.gm_machine.specs.Plans.{choice, cursor_of, numbers_to, owed_list, allows, allows_next, none_runs, goes_in, is_some_of, fits_plan, is_planned_from, IsPlanned, Stands, Planned, Plan, place_after, is_owing_place, is_planned_owing, is_there, planned_job, planned_with, none_there, entered, all_in_of, all_in, planned_owed_list, planned_rider_at, planned_riders, loss_by, loss_of, place_by, ridden_place, ridden, visited, visited_at, next_plan, plan_after, misses_of}
-use Rattle.gm_machine.specs.Promises.{AllStages, place_of, seen, seen_plan}
+use Rattle.gm_machine.specs.Plans.{choice, cursor_of, numbers_to, owed_list, allows, allows_next, none_runs, goes_in, is_some_of, fits_plan, is_planned_from, IsPlanned, Stands, Planned, Plan, place_after, is_owing_place, is_planned_owing, is_there, planned_job, planned_with, none_there, entered, all_in_of, all_in, planned_owed_list, planned_rider_at, planned_riders, loss_by, loss_of, place_by, ridden_place, ridden, visited, visited_at, next_plan, plan_after, misses_by_visit}
 use Rattle.gm_machine.specs.Promises.{AllStages, place_of, seen, seen_plan}
 use Rattle.gm_machine.proofs.Lists.{by_test, stages_after, stages_weaker, stages_both, stages_fail, IsAmong}
 use Rattle.gm_machine.proofs.Soundness.{IsFine, Sound, begins_sound, step_sound, is_among}
@@ -112,7 +111,7 @@ module _ {State : Type 0} (Midway : ℕ → Entry State → Type 0) (s : Setup S
   opened_alive c n (Works e) rests = absurd (true≢false rests)
   opened_alive c n (Over o) rests = tt
 
-  opened_ready : (c n : ℕ) (st : Stage State) → is_riding st ≡ false → IsReady s c [] n (boarded s c n st)
+  pub opened_ready : (c n : ℕ) (st : Stage State) → is_riding st ≡ false → IsReady s c [] n (boarded s c n st)
   opened_ready c n (Runs e) rests = by_test (s.owes n e c) (λ t. IsReady s c [] n (cond t (Waits e) (Runs e))) (λ _. tt) (λ _. tt)
   opened_ready c n (Waits e) rests = absurd (true≢false rests)
   opened_ready c n (Works e) rests = absurd (true≢false rests)
@@ -125,7 +124,7 @@ module _ {State : Type 0} (Midway : ℕ → Entry State → Type 0) (s : Setup S
   some_of_eq None c h = absurd (true≢false (sym h))
   some_of_eq (Some d) c h = ap Some (eqb-true d c h)
 
-  all_rest : (jobs : List (Job State)) → list_any (λ job. is_riding job.stage) jobs ≡ false → AllStages (λ n st. is_riding st ≡ false) jobs
+  pub all_rest : (jobs : List (Job State)) → list_any (λ job. is_riding job.stage) jobs ≡ false → AllStages (λ n st. is_riding st ≡ false) jobs
   all_rest jobs none = stages_fail (λ job. is_riding job.stage) (λ n st. is_riding st ≡ false) (λ job r. r) jobs none
 
   in_opened : (now d c : ℕ) (vs : List Ridden) (jobs : List (Job State)) → list_any (λ job. is_riding job.stage) jobs ≡ false → AllStages (Fine d) jobs
@@ -178,17 +177,17 @@ module _ {State : Type 0} (Midway : ℕ → Entry State → Type 0) (s : Setup S
 
   abbrev pub IsInVisit : ℕ → List Ridden → List Key → List (Job State) → Type 0
   IsInVisit now [] loaded jobs = ⊥
-  IsInVisit now (v ∷ vs) loaded jobs = InVisit s (all_in s (plan_after s (misses_of vs))) now v vs loaded jobs
+  IsInVisit now (v ∷ vs) loaded jobs = InVisit s (all_in s (plan_after s (misses_by_visit vs))) now v vs loaded jobs
 
   pub made_plan : (now : ℕ) (v : Ridden) (vs : List Ridden) (loaded : List Key) (jobs : List (Job State)) → IsInVisit now (v ∷ vs) loaded jobs
-      → plan_after s (misses_of (v ∷ vs)) ≡ plan_at now (v ∷ vs) (map (final s (loss_of v.miss v.chunk) v.chunk) jobs)
+      → plan_after s (misses_by_visit (v ∷ vs)) ≡ plan_at now (v ∷ vs) (map (final s (loss_of v.miss v.chunk) v.chunk) jobs)
   unfolding plan_after next_plan
   made_plan now v vs loaded jobs h =
-      let before = all_in s (plan_after s (misses_of vs)) in
+      let before = all_in s (plan_after s (misses_by_visit vs)) in
       ap (λ (o : Option ℕ). visited_at s v.miss o before) h.chosen ∙ made before now v vs loaded jobs h
 
   closed_plan : (now : ℕ) (visits : List Ridden) (loaded : List Key) (jobs : List (Job State)) → IsInVisit now visits loaded jobs → list_any (λ job. is_riding job.stage) jobs ≡ false
-      → plan_at now visits (map seen jobs) ≡ plan_after s (misses_of visits)
+      → plan_at now visits (map seen jobs) ≡ plan_after s (misses_by_visit visits)
   closed_plan now [] loaded jobs h none = absurd h
   closed_plan now (v ∷ vs) loaded jobs h none =
       sym (made_plan now v vs loaded jobs h ∙ ap (plan_at now (v ∷ vs)) (seen_at_rest (loss_of v.miss v.chunk) v.chunk jobs none))
@@ -196,7 +195,7 @@ module _ {State : Type 0} (Midway : ℕ → Entry State → Type 0) (s : Setup S
   -- what a planned journal's scene has to do with the plan of its misses
   pub record Follows (scene : Scene State) : Type 0 where
     pub inside : is_open scene ≡ true → IsInVisit scene.entries_in scene.visits scene.loaded scene.jobs
-    pub outside : is_open scene ≡ false → all_in s (seen_plan scene) ≡ all_in s (plan_after s (misses_of scene.visits))
+    pub outside : is_open scene ≡ false → all_in s (seen_plan scene) ≡ all_in s (plan_after s (misses_by_visit scene.visits))
 
   follows_inside : (scene : Scene State) → IsInVisit scene.entries_in scene.visits scene.loaded scene.jobs → Follows scene
   follows_inside scene h = record { inside = λ o. h; outside = λ closed. ap (all_in s) (closed_plan scene.entries_in scene.visits scene.loaded scene.jobs h closed) }
@@ -210,7 +209,7 @@ module _ {State : Type 0} (Midway : ℕ → Entry State → Type 0) (s : Setup S
       ap (λ (l : Line). l ∷ lines) same
   at_next (one ∷ lines) (suc n) line h = at_next lines n line h
 
-  none_next : (lines : List Line) (n : ℕ) → slice_get lines n ≡ None → drop n lines ≡ []
+  pub none_next : (lines : List Line) (n : ℕ) → slice_get lines n ≡ None → drop n lines ≡ []
   none_next [] zero h = refl
   none_next [] (suc n) h = refl
   none_next (one ∷ lines) zero h = cc
@@ -241,7 +240,7 @@ module _ {State : Type 0} (Midway : ℕ → Entry State → Type 0) (s : Setup S
   seen_length [] = refl
   seen_length (one ∷ jobs) = ap suc (seen_length jobs)
 
-  jobs_seen : (line : Line) (jobs : List (Job State)) → IsAmong s (Some line) (length jobs) → planned_with s line (map seen jobs) ≡ map seen (jobs_with s (Some line) jobs)
+  pub jobs_seen : (line : Line) (jobs : List (Job State)) → IsAmong s (Some line) (length jobs) → planned_with s line (map seen jobs) ≡ map seen (jobs_with s (Some line) jobs)
   jobs_seen (Update batch) jobs within = refl
   jobs_seen (Wait k) jobs within = refl
   jobs_seen (JobLine name spec own) jobs within =
@@ -322,33 +321,33 @@ module _ {State : Type 0} (Midway : ℕ → Entry State → Type 0) (s : Setup S
   loaded_inside : (now : ℕ) (visits : List Ridden) (loaded : List Key) (jobs : List (Job State)) (k : Key) → list_any (rides_with s (chunk_now visits) k) jobs ≡ true
       → IsInVisit now visits loaded jobs → IsInVisit now visits (k ∷ loaded) jobs
   loaded_inside now [] loaded jobs k rides h = h
-  loaded_inside now (v ∷ vs) loaded jobs k rides h = in_loaded s (all_in s (plan_after s (misses_of vs))) now v vs loaded jobs k rides h
+  loaded_inside now (v ∷ vs) loaded jobs k rides h = in_loaded s (all_in s (plan_after s (misses_by_visit vs))) now v vs loaded jobs k rides h
 
   lost_inside : (now : ℕ) (visits : List Ridden) (loaded : List Key) (jobs : List (Job State)) (k : Key) → has_key loaded k ≡ false → IsInVisit now visits loaded jobs
       → IsInVisit now (lose k visits) loaded (map (at_stage (ended_where (λ m e. is_same_key (key_in s (chunk_now visits) m e) k) NoMemory)) jobs)
   unfolding lost_at
   lost_inside now [] loaded jobs k fresh h = h
-  lost_inside now (v ∷ vs) loaded jobs k fresh h = in_lost s (all_in s (plan_after s (misses_of vs))) now v vs loaded jobs k fresh h
+  lost_inside now (v ∷ vs) loaded jobs k fresh h = in_lost s (all_in s (plan_after s (misses_by_visit vs))) now v vs loaded jobs k fresh h
 
   failed_inside : (now : ℕ) (visits : List Ridden) (loaded : List Key) (jobs : List (Job State)) (cause : LoadCause) → list_any (λ job. is_riding job.stage) jobs ≡ true
       → is_empty loaded ≡ true → is_whole visits ≡ true → IsInVisit now visits loaded jobs
       → IsInVisit now (fail cause visits) loaded (map (at_stage (ended_where (λ m e. true) (ending_by cause (chunk_now visits)))) jobs)
   unfolding failed_at
   failed_inside now [] loaded jobs cause rides empty whole h = h
-  failed_inside now (v ∷ vs) loaded jobs cause rides empty whole h = in_failed s (all_in s (plan_after s (misses_of vs))) now v vs loaded jobs cause rides empty whole h
+  failed_inside now (v ∷ vs) loaded jobs cause rides empty whole h = in_failed s (all_in s (plan_after s (misses_by_visit vs))) now v vs loaded jobs cause rides empty whole h
 
   given_inside : (now : ℕ) (visits : List Ridden) (loaded : List Key) (jobs : List (Job State)) (j : ℕ) → list_all (is_settled s (chunk_now visits) loaded) jobs ≡ true
       → IsInVisit now visits loaded jobs → IsInVisit now visits loaded (map (at_stage (given j)) jobs)
   given_inside now [] loaded jobs j settled h = h
-  given_inside now (v ∷ vs) loaded jobs j settled h = in_given s (all_in s (plan_after s (misses_of vs))) now v vs loaded jobs j settled h
+  given_inside now (v ∷ vs) loaded jobs j settled h = in_given s (all_in s (plan_after s (misses_by_visit vs))) now v vs loaded jobs j settled h
 
   passed_inside : (now : ℕ) (visits : List Ridden) (loaded : List Key) (jobs : List (Job State)) (j : ℕ) → AllStages (Fine (chunk_now visits)) jobs
       → IsInVisit now visits loaded jobs → IsInVisit now visits loaded (map (at_stage (has_passed s j (chunk_now visits))) jobs)
   passed_inside now [] loaded jobs j fine h = h
-  passed_inside now (v ∷ vs) loaded jobs j fine h = in_passed (all_in s (plan_after s (misses_of vs))) now v vs loaded jobs j fine h
+  passed_inside now (v ∷ vs) loaded jobs j fine h = in_passed (all_in s (plan_after s (misses_by_visit vs))) now v vs loaded jobs j fine h
 
   visit_inside : (scene : Scene State) (c : ℕ) → is_open scene ≡ false → AllStages (Fine (chunk_now scene.visits)) scene.jobs → fits_plan s scene (Visit c) ≡ true
-      → all_in s (seen_plan scene) ≡ all_in s (plan_after s (misses_of scene.visits))
+      → all_in s (seen_plan scene) ≡ all_in s (plan_after s (misses_by_visit scene.visits))
       → IsInVisit scene.entries_in (opened s c scene.jobs ∷ scene.visits) [] (map (at_stage (boarded s c)) scene.jobs)
   visit_inside scene c closed fine fits outside =
       let owed = map (owed_list s) scene.jobs in

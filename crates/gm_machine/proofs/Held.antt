@@ -9,7 +9,6 @@ use Rattle.gm_buffer.specs.Keys.{is_same_key}
 use Rattle.gm_machine.specs.Setups.{Entry, Setup}
 use Rattle.gm_machine.specs.Machine.{Stage, Runs, Waits, Works, Over, Job, Held, is_empty, is_riding, is_waiting, rides_at, rides_with, has_key, riders_with, keep, without, release, at_stage, has_passed, stage_after}
 use Rattle.gm_machine.specs.Promises.{AllStages, Apart, keys_of, IsRiderBy, IsHeldFor}
-use Rattle.gm_machine.specs.Promises.{AllStages, Apart, keys_of, IsRiderBy, IsHeldFor}
 
 module _ {State : Type 0} where
   abbrev pub copy_of : Setup State → ℕ → List (Job State) → Key → Held

@@ -11,7 +11,6 @@ use Rattle.gm_machine.specs.Setups.{Entry, standing, map_turned, Setup}
 use Rattle.gm_machine.specs.Machine.{Ending, NoMemory, ending_by, Stage, Runs, Waits, Works, Over, Job, Miss, Ridden, is_empty, is_riding, is_settled, is_settled_at, key_in, rides_at, rides_with, has_key, at_stage, given, has_passed, ended_where, stage_after}
 use Rattle.gm_machine.specs.Plans.{Place, Stands, Gone, Planned, Plan, place_after, planned_riders, loss_by, loss_of, place_by, ridden, plan_choice}
 use Rattle.gm_machine.specs.Promises.{AllStages, place_of}
-use Rattle.gm_machine.specs.Promises.{AllStages, place_of}
 use Rattle.gm_machine.proofs.Lists.{by_test, same_key-true, same_key_refl, same_key_sym, stages_after, stages_weaker, stages_all, stage_found, stages_pass}
 
 module _ {State : Type 0} where

@@ -12,7 +12,6 @@ use Rattle.gm_buffer.specs.Keys.{is_same_key, is_same_tag}
 use Rattle.gm_machine.specs.Setups.{Setup, jobs_in}
 use Rattle.gm_machine.specs.Machine.{Stage, Job, at_stage}
 use Rattle.gm_machine.specs.Promises.{AllStages}
-use Rattle.gm_machine.specs.Promises.{AllStages}
 
 -- both answers of a test, with the equation
 pub by_test : (b : Bool) (P : Bool → Type 0) → (b ≡ true → P true) → (b ≡ false → P false) → P b
@@ -32,7 +31,7 @@ same_key-true a b h =
     let t = same_tag-true a.tag b.tag parts.1 in
     ap₂ (λ (x : ℕ) (y : Tag). record { chunk = x; tag = y }) c t
 
-eqb_refl : (n : ℕ) → eqb n n ≡ true
+pub eqb_refl : (n : ℕ) → eqb n n ≡ true
 eqb_refl n = grind arith
 
 same_tag_refl : (a : Tag) → is_same_tag a a ≡ true
@@ -74,7 +73,7 @@ module _ {State : Type 0} where
   numbered_more n (one ∷ jobs) job h e = (h.0, numbered_more (suc n) jobs job h.1 (omega arith))
 
   -- no job has a number from before
-  none_before : (j n : ℕ) (P : Job State → Bool) (jobs : List (Job State)) → j < n → Numbered n jobs → list_any (λ job. eqb job.number j && P job) jobs ≡ false
+  pub none_before : (j n : ℕ) (P : Job State → Bool) (jobs : List (Job State)) → j < n → Numbered n jobs → list_any (λ job. eqb job.number j && P job) jobs ≡ false
   none_before j n P [] below h = refl
   none_before j n P (job ∷ jobs) below h =
       let other : eqb job.number j ≡ false = ne_eqb job.number j (λ e. omega arith) in

@@ -10,9 +10,8 @@ use Rattle.gm_events.specs.declared.event.Event.{Event}
 use Rattle.gm_priority.specs.Priority.{pick_of}
 use Rattle.gm_machine.specs.Setups.{Entry, Setup, EntryLaws}
 use Rattle.gm_machine.specs.Machine.{Ending, Stage, Runs, Waits, Works, Over, Job, Miss, Ridden, Scene, is_open, scene_of}
-use Rattle.gm_machine.specs.Plans.{choice, numbers_to, is_in, owed_by_any, or_else, above_cursor, first_in, row_of, allows, none_runs, IsPlanned, Place, Stands, Gone, Planned, Plan, is_there, planned_with, none_there, entered, all_in_of, all_in, is_planned_owing, planned_owed_list, loss_of, ridden, plan_choice, visited_at, next_plan, plan_after, misses_of}
-use Rattle.gm_machine.specs.Promises.{AllStages, seen, seen_plan, plan_of, EndsWith, gone, Has, IsToldBy}
-use Rattle.gm_machine.specs.Promises.{AllStages, seen, seen_plan, plan_of, EndsWith, gone, Has, IsToldBy}
+use Rattle.gm_machine.specs.Plans.{choice, numbers_to, is_in, owed_by_any, or_else, above_cursor, first_in, row_of, allows, none_runs, IsPlanned, Place, Stands, Gone, Planned, Plan, is_there, planned_with, none_there, entered, all_in_of, all_in, is_planned_owing, planned_owed_list, loss_of, ridden, plan_choice, visited_at, next_plan, plan_after, plan_of, misses_by_visit}
+use Rattle.gm_machine.specs.Promises.{AllStages, seen, seen_plan, EndsWith, gone, Has, IsToldBy}
 use Rattle.gm_machine.proofs.Lists.{by_test, stages_weaker}
 use Rattle.gm_machine.proofs.InVisits.{final}
 use Rattle.gm_machine.proofs.Following.{Follows, follows, IsInVisit, made_plan, stay_all, none_seen}
@@ -111,7 +110,7 @@ none_owed [] h c = refl
 none_owed (xs ∷ owed) h c = ap (λ (ys : List ℕ). is_in ys c || owed_by_any owed c) h.0 ∙ none_owed owed h.1 c
 
 module _ {State : Type 0} where
-  no_choice : (s : Setup State) (cursor : Option ℕ) (owed : List (List ℕ)) → AllEmpty owed → choice s cursor owed ≡ None
+  pub no_choice : (s : Setup State) (cursor : Option ℕ) (owed : List (List ℕ)) → AllEmpty owed → choice s cursor owed ≡ None
   unfolding choice
   no_choice s cursor owed h =
       let none = none_owed owed h in
@@ -130,7 +129,7 @@ filter_none [] = refl
 filter_none (x ∷ xs) = filter_none xs
 
 module _ {State : Type 0} where
-  all_gone : (s : Setup State) (jobs : List Planned) → none_there jobs ≡ true → AllEmpty (map (planned_owed_list s) jobs)
+  pub all_gone : (s : Setup State) (jobs : List Planned) → none_there jobs ≡ true → AllEmpty (map (planned_owed_list s) jobs)
   all_gone s [] h = tt
   all_gone s (job ∷ jobs) h =
       let parts = and_parts (not (is_there job.place)) (none_there jobs) h in
@@ -176,38 +175,38 @@ module _ {State : Type 0} (Midway : ℕ → Entry State → Type 0) (s : Setup S
   Fol : Scene State → Type 0
   Fol scene = Follows Midway s laws scene
 
-  in_visits : (now : ℕ) (visits : List Ridden) (loaded : List Key) (jobs : List (Job State)) → IsInVisit Midway s laws now visits loaded jobs → visits ≡ (plan_after s (misses_of visits)).visits
+  in_visits : (now : ℕ) (visits : List Ridden) (loaded : List Key) (jobs : List (Job State)) → IsInVisit Midway s laws now visits loaded jobs → visits ≡ (plan_after s (misses_by_visit visits)).visits
   in_visits now [] loaded jobs h = absurd h
   in_visits now (v ∷ vs) loaded jobs h = sym (ap (λ (p : Plan). p.visits) (made_plan Midway s laws now v vs loaded jobs h))
 
-  visits_now : (scene : Scene State) → Fol scene → scene.visits ≡ (plan_after s (misses_of scene.visits)).visits
+  visits_now : (scene : Scene State) → Fol scene → scene.visits ≡ (plan_after s (misses_by_visit scene.visits)).visits
   unfolding Fol
-  visits_now scene h = by_test (is_open scene) (λ b. scene.visits ≡ (plan_after s (misses_of scene.visits)).visits)
+  visits_now scene h = by_test (is_open scene) (λ b. scene.visits ≡ (plan_after s (misses_by_visit scene.visits)).visits)
       (λ opened. in_visits scene.entries_in scene.visits scene.loaded scene.jobs (h.inside opened))
-      (λ closed. sym (all_in-visits s (seen_plan scene)) ∙ ap (λ (p : Plan). p.visits) (h.outside closed) ∙ all_in-visits s (plan_after s (misses_of scene.visits)))
+      (λ closed. sym (all_in-visits s (seen_plan scene)) ∙ ap (λ (p : Plan). p.visits) (h.outside closed) ∙ all_in-visits s (plan_after s (misses_by_visit scene.visits)))
 
   -- the visits, with their riders and keys, are those that the plan of the misses begins with, however it goes on
   pub visits_are_planned : (journal : List Event) → IsPlanned s journal → (more : List Miss)
-      → EndsWith (plan_after s (more ++ misses_of (scene_of s journal).visits)).visits (scene_of s journal).visits
+      → EndsWith (plan_after s (more ++ misses_by_visit (scene_of s journal).visits)).visits (scene_of s journal).visits
   unfolding Fol
   visits_are_planned journal ok more =
       let scene = scene_of s journal in
       let now = visits_now scene (follows Midway s laws journal ok) in
-      subst (EndsWith (plan_after s (more ++ misses_of scene.visits)).visits) (sym now) (plan_goes_on s more (misses_of scene.visits))
+      subst (EndsWith (plan_after s (more ++ misses_by_visit scene.visits)).visits) (sym now) (plan_goes_on s more (misses_by_visit scene.visits))
 
   in_told : (now : ℕ) (visits : List Ridden) (loaded : List Key) (jobs : List (Job State)) → IsInVisit Midway s laws now visits loaded jobs
-      → AllStages (IsToldBy (plan_after s (misses_of visits)).jobs) jobs
+      → AllStages (IsToldBy (plan_after s (misses_by_visit visits)).jobs) jobs
   in_told now [] loaded jobs h = absurd h
   in_told now (v ∷ vs) loaded jobs h =
       let loss = loss_of v.miss v.chunk in
       let made = sym (made_plan Midway s laws now v vs loaded jobs h) in
       subst (λ (p : Plan). AllStages (IsToldBy p.jobs) jobs) made (told_by_map (final s loss v.chunk) (λ n o. refl) jobs)
 
-  told_now : (scene : Scene State) → Fol scene → AllStages (IsToldBy (plan_of s (misses_of scene.visits)).jobs) scene.jobs
+  told_now : (scene : Scene State) → Fol scene → AllStages (IsToldBy (plan_of s (misses_by_visit scene.visits)).jobs) scene.jobs
   unfolding Fol
   told_now scene h =
-      let plan = plan_after s (misses_of scene.visits) in
-      by_test (is_open scene) (λ b. AllStages (IsToldBy (plan_of s (misses_of scene.visits)).jobs) scene.jobs)
+      let plan = plan_after s (misses_by_visit scene.visits) in
+      by_test (is_open scene) (λ b. AllStages (IsToldBy (plan_of s (misses_by_visit scene.visits)).jobs) scene.jobs)
       (λ opened. stages_weaker (IsToldBy plan.jobs) (IsToldBy (all_in s plan).jobs) (told_weaker plan.jobs (all_in s plan).jobs (λ p g. all_in_has s p plan g)) scene.jobs
       (in_told scene.entries_in scene.visits scene.loaded scene.jobs (h.inside opened)))
       (λ closed. subst (λ (p : Plan). AllStages (IsToldBy p.jobs) scene.jobs) (h.outside closed)
@@ -222,19 +221,19 @@ module _ {State : Type 0} (Midway : ℕ → Entry State → Type 0) (s : Setup S
 
   -- each job that has ended has its outcome there
   pub outcomes_are_planned : (journal : List Event) → IsPlanned s journal → (more : List Miss)
-      → AllStages (IsToldBy (plan_of s (more ++ misses_of (scene_of s journal).visits)).jobs) (scene_of s journal).jobs
+      → AllStages (IsToldBy (plan_of s (more ++ misses_by_visit (scene_of s journal).visits)).jobs) (scene_of s journal).jobs
   unfolding Fol
   outcomes_are_planned journal ok more =
       let scene = scene_of s journal in
-      let misses = misses_of scene.visits in
+      let misses = misses_by_visit scene.visits in
       stages_weaker (IsToldBy (plan_of s misses).jobs) (IsToldBy (plan_of s (more ++ misses)).jobs) (told_later more misses) scene.jobs (told_now scene (follows Midway s laws journal ok))
 
   -- where every entry is in, no visit is open and no job runs, the scene is all of the plan
   pub end_is_planned : (journal : List Event) → IsPlanned s journal → slice_get s.script (scene_of s journal).entries_in ≡ None → is_open (scene_of s journal) ≡ false
-      → none_runs (scene_of s journal).jobs ≡ true → (more : List Miss) → plan_of s (more ++ misses_of (scene_of s journal).visits) ≡ seen_plan (scene_of s journal)
+      → none_runs (scene_of s journal).jobs ≡ true → (more : List Miss) → plan_of s (more ++ misses_by_visit (scene_of s journal).visits) ≡ seen_plan (scene_of s journal)
   end_is_planned journal ok all_are_in closed none more =
       let scene = scene_of s journal in
-      let misses = misses_of scene.visits in
+      let misses = misses_by_visit scene.visits in
       let stays : all_in s (seen_plan scene) ≡ seen_plan scene = stay_all Midway s laws scene.entries_in scene.visits scene.jobs None all_are_in refl in
       let ended : HasEnded s (seen_plan scene) = record { whole = stays; gone = none_seen Midway s laws scene.jobs ∙ none } in
       ended_stays s more misses (seen_plan scene) ended (sym ((follows Midway s laws journal ok).outside closed) ∙ stays)

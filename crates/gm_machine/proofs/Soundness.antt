@@ -16,7 +16,6 @@ use Rattle.gm_buffer.specs.Keys.{is_same_key}
 use Rattle.gm_machine.specs.Setups.{Entry, Setup, jobs_in, IsTurnedWell, EntryLaws}
 use Rattle.gm_machine.specs.Machine.{Ending, Own, ReadFailed, ChangedFound, NoMemory, ending_by, Stage, Runs, Waits, Works, Over, Job, Ridden, Held, Scene, beginning, is_empty, is_whole, release, is_working, is_waiting, is_riding, is_owing, is_open, key_in, rides_at, rides_with, has_key, chunk_now, riders_with, lose, fail, at_stage, boarded, given, has_passed, ended_where, stage_after, new_job, jobs_with, may, done, scene_from, is_legal_from, scene_of, IsLegal}
 use Rattle.gm_machine.specs.Promises.{AllStages, Apart}
-use Rattle.gm_machine.specs.Promises.{AllStages, Apart}
 use Rattle.gm_machine.proofs.Lists.{by_test, same_key-true, same_key_refl, stages_after, stages_more, Numbered, numbered_after, numbered_more, only_one, line_at_next, no_line_next, length_map, length_more, IsAmong}
 use Rattle.gm_machine.proofs.Held.{held_of, SameRiders, held_of_same, held_of_alike, held_of_none, held_of_loaded, riders_along, riders_push, release_held, NoneWaits}
 
@@ -117,7 +116,7 @@ module _ {State : Type 0} (Midway : ℕ → Entry State → Type 0) (s : Setup S
   submit_fine c (Some (Wait k)) jobs within h = h
   submit_fine c (Some (JobLine name spec own)) jobs within h = stages_more (IsFine c) jobs (new_job s (length jobs)) h (new_fine c (length jobs) within)
 
-  submit_numbers : (line : Option Line) (jobs : List (Job State)) → Numbered 0 jobs → Numbered 0 (jobs_with s line jobs)
+  pub submit_numbers : (line : Option Line) (jobs : List (Job State)) → Numbered 0 jobs → Numbered 0 (jobs_with s line jobs)
   submit_numbers None jobs h = h
   submit_numbers (Some (Update batch)) jobs h = h
   submit_numbers (Some (Wait k)) jobs h = h

@@ -8,7 +8,6 @@ use Rattle.gm_events.specs.declared.event.Event.TheVariants.{Passed}
 use Rattle.gm_machine.specs.Setups.{Entry, standing, Setup, EntryLaws}
 use Rattle.gm_machine.specs.Machine.{Own, ReadFailed, ChangedFound, NoMemory, Stage, Runs, Waits, Works, Over, Job, Held, is_running, is_working, is_owing_at, rides_at, rides_with, chunk_now, may, scene_of, IsLegal}
 use Rattle.gm_machine.specs.Promises.{AllStages, IsMidwayOrLone, Apart, keys_of, IsHeldFor, IsRiding, IsNew}
-use Rattle.gm_machine.specs.Promises.{AllStages, IsMidwayOrLone, Apart, keys_of, IsHeldFor, IsRiding, IsNew}
 use Rattle.gm_machine.proofs.Lists.{stages_weaker}
 use Rattle.gm_machine.proofs.Held.{apart_held, held_for}
 use Rattle.gm_machine.proofs.Soundness.{IsFine, sound}

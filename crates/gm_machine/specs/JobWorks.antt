@@ -1,5 +1,5 @@
 -- What the jobs of a script do, as the layers above take it: functions of the jobs' numbers, and what holds of them.
-use Rattle.std.specs.Prelude.{◌≡◌, ◌⊎◌, ℕ, ◌+◌, ◌*◌, ◌<◌, ◌≤◌, Bool, true, false, ◌==◌, ◌&&◌, not, List, []}
+use Rattle.std.specs.Prelude.{◌≡◌, ◌⊎◌, ℕ, zero, suc, ◌+◌, ◌*◌, ◌<◌, ◌≤◌, Bool, true, false, ◌==◌, ◌&&◌, not, List, []}
 use Rattle.std.specs.List.{list_any}
 use Rattle.gm_base.specs.declared.edge.Edge.{Edge}
 use Rattle.gm_base.specs.declared.copies.Key.{Key}
@@ -34,6 +34,14 @@ pub record JobWorks (State : Type 0) : Type 0 where
   pub phases : ℕ → ℕ
   pub phases_left : ℕ → Phase → ℕ
   pub left : ℕ → Standing → ℕ
+
+-- the phases of so many jobs, from this one on, times the chunks
+abbrev pub phases_of : {State : Type 0} → JobWorks State → ℕ → ℕ → ℕ
+phases_of w n zero = 0
+phases_of w n (suc more) = w.phases n * w.chunks + phases_of w (suc n) more
+
+abbrev pub most_visits : {State : Type 0} → JobWorks State → ℕ
+most_visits w = phases_of w 0 w.jobs
 
 -- a job that owes some chunk
 pub record OwesSome {State : Type 0} (w : JobWorks State) (n : ℕ) (e : State) : Type 0 where

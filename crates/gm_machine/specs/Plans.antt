@@ -211,5 +211,10 @@ unfoldable pub plan_after : {State : Type 0} → Setup State → List Miss → P
 plan_after s [] = plan_beginning
 plan_after s (miss ∷ misses) = next_plan s miss (plan_after s misses)
 
-abbrev pub misses_of : List Ridden → List Miss
-misses_of visits = map (λ v. v.miss) visits
+-- the plan of these misses, the last visit's first, with all entries in that may go in
+abbrev pub plan_of : {State : Type 0} → Setup State → List Miss → Plan
+plan_of s misses = all_in s (plan_after s misses)
+
+-- the miss of each visit, the last one's first
+abbrev pub misses_by_visit : List Ridden → List Miss
+misses_by_visit visits = map (λ v. v.miss) visits

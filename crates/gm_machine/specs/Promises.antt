@@ -1,12 +1,12 @@
 -- The words of the theorems.
-use Rattle.std.specs.Prelude.{◌≡◌, ◌⊎◌, ℕ, zero, suc, ◌+◌, ◌*◌, true, false, ◌==◌, List, [], ◌∷◌, ◌++◌, map, None, slice_get}
-use Rattle.gm_machine.specs.JobWorks.{JobWorks}
+use Rattle.std.specs.Prelude.{◌≡◌, ◌⊎◌, ℕ, true, false, ◌==◌, List, [], ◌∷◌, ◌++◌, map, reverse, Some, None, slice_get}
 use Rattle.gm_base.specs.declared.copies.Key.{Key}
 use Rattle.gm_base.specs.declared.job.Outcome.{Outcome}
 use Rattle.std.specs.List.{AllByRecursion, list_any}
 use Rattle.gm_machine.specs.Setups.{Entry, standing, Setup}
 use Rattle.gm_machine.specs.Machine.{Ending, Own, ReadFailed, ChangedFound, NoMemory, Stage, Runs, Waits, Works, Over, Job, Miss, Ridden, Held, Scene, is_empty, is_running, is_owing, is_open, has_key, rides_with, chunk_now}
-use Rattle.gm_machine.specs.Plans.{Place, Stands, Gone, Planned, Plan, plan_after, all_in, misses_of, none_runs}
+use Rattle.gm_machine.specs.Schedules.{Schedule}
+use Rattle.gm_machine.specs.Plans.{Place, Stands, Gone, Planned, Plan, loss_of, plan_after, plan_of, misses_by_visit, none_runs}
 
 -- P of the number and the stage of each job
 abbrev pub AllStages : {State : Type 0} → (ℕ → Stage State → Type 0) → List (Job State) → Type 0
@@ -35,21 +35,9 @@ seen job = record { number = job.number; place = place_of job.stage }
 abbrev pub seen_plan : {State : Type 0} → Scene State → Plan
 seen_plan scene = record { entries_in = scene.entries_in; visits = scene.visits; jobs = map seen scene.jobs }
 
--- the plan of these misses, the last visit's first, with all entries in that may go in
-abbrev pub plan_of : {State : Type 0} → Setup State → List Miss → Plan
-plan_of s misses = all_in s (plan_after s misses)
-
 -- the later list has the earlier one at its end
 abbrev pub EndsWith : List Ridden → List Ridden → Type 0
 EndsWith ys xs = (zs : List Ridden) × (ys ≡ zs ++ xs)
-
--- the phases of so many jobs, from this one on, times the chunks
-abbrev pub phases_of : {State : Type 0} → JobWorks State → ℕ → ℕ → ℕ
-phases_of w n zero = 0
-phases_of w n (suc more) = w.phases n * w.chunks + phases_of w (suc n) more
-
-abbrev pub most_visits : {State : Type 0} → JobWorks State → ℕ
-most_visits w = phases_of w 0 w.jobs
 
 -- ---- copies that are held
 
@@ -108,11 +96,11 @@ AreHeldForRiders s scene = AllByRecursion (IsHeldFor (IsRiding s (chunk_now scen
 
 -- the visits are those that the plan of their misses begins with, with further misses
 abbrev pub BeginsPlan : {State : Type 0} → Setup State → List Miss → Scene State → Type 0
-BeginsPlan s more scene = EndsWith (plan_after s (more ++ misses_of scene.visits)).visits scene.visits
+BeginsPlan s more scene = EndsWith (plan_after s (more ++ misses_by_visit scene.visits)).visits scene.visits
 
 -- each job that has ended has its outcome in the plan
 abbrev pub HasPlannedOutcomes : {State : Type 0} → Setup State → List Miss → Scene State → Type 0
-HasPlannedOutcomes s more scene = AllStages (IsToldBy (plan_of s (more ++ misses_of scene.visits)).jobs) scene.jobs
+HasPlannedOutcomes s more scene = AllStages (IsToldBy (plan_of s (more ++ misses_by_visit scene.visits)).jobs) scene.jobs
 
 -- every entry is in, no visit is open, and no job runs
 pub record IsAtEnd {State : Type 0} (s : Setup State) (scene : Scene State) : Type 0 where
@@ -122,4 +110,41 @@ pub record IsAtEnd {State : Type 0} (s : Setup State) (scene : Scene State) : Ty
 
 -- the plan has these visits and jobs, and no more
 abbrev pub IsWholePlan : {State : Type 0} → Setup State → List Miss → Scene State → Type 0
-IsWholePlan s more scene = plan_of s (more ++ misses_of scene.visits) ≡ seen_plan scene
+IsWholePlan s more scene = plan_of s (more ++ misses_by_visit scene.visits) ≡ seen_plan scene
+
+-- ---- jobs that end by a miss
+
+-- a rider with this number is ended so by a miss of the visit
+abbrev pub EndsRider : ℕ → Ending → Ridden → Type 0
+EndsRider n o v = Among (λ r. (r.job ≡ n) × (loss_of v.miss v.chunk r.key ≡ Some o)) v.riders
+
+-- a job that has ended did so as its lone run, or it rode in one of the visits, whose miss ended it
+abbrev pub IsAloneOrMissed : {State : Type 0} → (ℕ → Outcome) → List Ridden → ℕ → Stage State → Type 0
+IsAloneOrMissed lone visits n (Runs e) = Unit {0}
+IsAloneOrMissed lone visits n (Waits e) = Unit {0}
+IsAloneOrMissed lone visits n (Works e) = Unit {0}
+IsAloneOrMissed lone visits n (Over o) = (o ≡ Own (lone n)) ⊎ Among (EndsRider n o) visits
+
+-- ---- the schedule
+
+-- the list has the other one in front
+abbrev pub BeginsWith : List Ridden → List Ridden → Type 0
+BeginsWith ys xs = (zs : List Ridden) × (ys ≡ xs ++ zs)
+
+-- the schedule begins with the visits so far, with their riders, keys and misses
+abbrev pub HasVisitsOf : {State : Type 0} → Schedule → Scene State → Type 0
+HasVisitsOf schedule scene = BeginsWith schedule.visits (reverse scene.visits)
+
+abbrev pub HasOutcomeIn : {State : Type 0} → List Ending → ℕ → Stage State → Type 0
+HasOutcomeIn outcomes n (Runs e) = Unit {0}
+HasOutcomeIn outcomes n (Waits e) = Unit {0}
+HasOutcomeIn outcomes n (Works e) = Unit {0}
+HasOutcomeIn outcomes n (Over o) = slice_get outcomes n ≡ Some o
+
+-- each job that has ended has its outcome in the schedule
+abbrev pub HasOutcomesOf : {State : Type 0} → Schedule → Scene State → Type 0
+HasOutcomesOf schedule scene = AllStages (HasOutcomeIn schedule.outcomes) scene.jobs
+
+-- the schedule has these visits and no more
+abbrev pub HasOnlyVisitsOf : {State : Type 0} → Schedule → Scene State → Type 0
+HasOnlyVisitsOf schedule scene = schedule.visits ≡ reverse scene.visits

@@ -7,7 +7,7 @@ use Rattle.gm_jobs.specs.declared.script.Line.{Line}
 use Rattle.gm_jobs.specs.declared.script.Line.TheVariants.{Update, Wait, Job as JobLine}
 use Rattle.gm_kernel.specs.Standings.{Standing, with_passed, Turning}
 use Rattle.gm_kernel.specs.Standings.Turning.{Goes, Ends}
-use Rattle.gm_machine.specs.JobWorks.{JobWorks}
+use Rattle.gm_machine.specs.JobWorks.{JobWorks, most_visits}
 
 -- a job's entry in the machine: where the job stands, and its state
 pub record Entry (State : Type 0) : Type 0 where
@@ -39,6 +39,8 @@ pub record Setup (State : Type 0) : Type 0 where
   pub owes_at : ℕ → Standing → ℕ → Bool
   pub key_at : ℕ → Standing → ℕ → Key
   pub turn_at : ℕ → Standing → Turning Standing
+  -- how many visits there are at most
+  pub most : ℕ
 
 -- how many jobs a script has
 abbrev pub jobs_in : List Line → ℕ
@@ -70,6 +72,7 @@ setup_of w script = record {
   owes_at = w.owes_at;
   key_at = w.key_at;
   turn_at = w.turn_at;
+  most = most_visits w;
 }
 
 abbrev pub IsMidwayEntry : {State : Type 0} → (ℕ → Standing → State → Type 0) → ℕ → Entry State → Type 0
@@ -78,6 +81,11 @@ IsMidwayEntry IsMidway n e = IsMidway n e.at e.work
 abbrev pub IsTurnedWell : {State : Type 0} → (Entry State → Type 0) → Outcome → Turning (Entry State) → Type 0
 IsTurnedWell Goal lone (Goes e) = Goal e
 IsTurnedWell Goal lone (Ends o) = o ≡ lone
+
+-- the job owes some chunk
+pub record OwesOne {State : Type 0} (s : Setup State) (n : ℕ) (e : Entry State) : Type 0 where
+  pub chunk : ℕ
+  pub owed : s.owes n e chunk ≡ true
 
 -- what holds of entries
 pub record EntryLaws {State : Type 0} (s : Setup State) (Midway : ℕ → Entry State → Type 0) : Type 0 where
@@ -92,3 +100,8 @@ pub record EntryLaws {State : Type 0} (s : Setup State) (Midway : ℕ → Entry 
   pub turns_at : (n : ℕ) (e : Entry State) → Midway n e → map_turned standing (s.turn n e) ≡ s.turn_at n (standing e)
   -- what is owed isn't passed
   pub owed_is_new : (n c : ℕ) (st : Standing) → s.owes_at n st c ≡ true → list_any (λ d. d == c) st.passed ≡ false
+  -- a job that goes on after a turn owes a chunk
+  pub goes_owing : (n : ℕ) (e on : Entry State) → Midway n e → s.turn n e ≡ Goes on → OwesOne s n on
+  -- what is owed is a chunk, and a chunk is in one of the blocks
+  pub owed_is_chunk : (n c : ℕ) (st : Standing) → s.owes_at n st c ≡ true → c < s.chunks
+  pub chunk_in_block : (c : ℕ) → c < s.chunks → s.block_of c < s.blocks

@@ -8,8 +8,8 @@ ghost use Rattle.gm_events.specs.Journals.{tally_of};
 ghost use Rattle.gm_events.specs.declared.event.LoadCause.TheVariants.{Read};
 ghost use Rattle.gm_events.specs.declared.event.Event.TheVariants.{Submit, Visit, Loaded, NoCopy, LoadFailed, Given, Passed};
 ghost use Rattle.gm_machine.specs.Machine.{machine_after, IsLegal, scene_of, beginning, no_miss, Own, ReadFailed, NoMemory};
-ghost use Rattle.gm_machine.specs.Plans.{IsPlanned, is_planned_from, misses_of, Gone};
-ghost use Rattle.gm_machine.specs.Promises.{plan_of, seen_plan};
+ghost use Rattle.gm_machine.specs.Plans.{IsPlanned, is_planned_from, plan_of, misses_by_visit, Gone};
+ghost use Rattle.gm_machine.specs.Promises.{seen_plan};
 ghost use Rattle.gm_machine.specs.Examples.{one_at_work, two_at_work, waiting_at_work, first_visit, second_visit, both_given, whole_journal, failing_journal, grid_rider, own_rider};
 
 /// Journals that break one condition of the machine each.
@@ -85,6 +85,6 @@ pub fn a_failing_journal()
     ensures planned { IsPlanned two_at_work failing_journal }
     ensures outcomes { map (λ job. job.place) (seen_plan (scene_of two_at_work failing_journal)).jobs
         ≡ Gone (ReadFailed 2) ∷ Gone NoMemory ∷ [] }
-    ensures plan { plan_of two_at_work (no_miss ∷ misses_of (scene_of two_at_work failing_journal).visits)
+    ensures plan { plan_of two_at_work (no_miss ∷ misses_by_visit (scene_of two_at_work failing_journal).visits)
         ≡ seen_plan (scene_of two_at_work failing_journal) }
 {}

@@ -2,4 +2,5 @@
 #![tactic(auto)]
 
 pub mod examples;
+pub mod examples_schedules;
 pub mod laws;

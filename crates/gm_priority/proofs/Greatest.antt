@@ -8,7 +8,7 @@ use Rattle.std.proofs.lemmas.List.Sums.{sum_by-append}
 use Rattle.gm_priority.specs.declared.priority.Rank.{Rank}
 use Rattle.gm_priority.specs.Priority.{has, blocks_in, rows_with, fewest_with, is_at_least, is_greatest, pick_of, IsBest}
 
-by_test : (b : Bool) (P : Bool → Type 0) → (b ≡ true → P true) → (b ≡ false → P false) → P b
+pub by_test : (b : Bool) (P : Bool → Type 0) → (b ≡ true → P true) → (b ≡ false → P false) → P b
 by_test true P t f = t refl
 by_test false P t f = f refl
 

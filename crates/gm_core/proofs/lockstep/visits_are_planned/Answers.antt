@@ -1,5 +1,5 @@
 use Rattle.gm_core.proofs.ScriptLaws.{case_of}
-use Rattle.gm_core.proofs.lockstep.journals_follow_the_schedule.Goals as goal
+use Rattle.gm_core.proofs.lockstep.visits_are_planned.Goals as goal
 
 pub returns : goal.returns
 returns c = record {
