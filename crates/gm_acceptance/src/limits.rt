@@ -1,4 +1,4 @@
-//! Rows near the limits: the most vertices, many updates, the most ranges, and a long word.
+//! Rows near the limits: many updates, the most ranges, and a long word.
 use crate::calls::{PATH, REPORT, RUN, call_over, check_end, check_run, depot_of, run_job};
 use crate::sizes::push_value;
 use gm_fakes::MemDepot;
@@ -99,80 +99,5 @@ fn a_word_of_200_bytes(rt: HostRuntime) -> Result<(), Fail> {
     depot.put(name, PATH)?;
     let end = call_over(&rt, &words, depot)?;
     check_end(&rt, &end, (0, REPORT, b""), "a long name");
-    Ok(())
-}
-
-/// As many vertices as a grid may have.
-const MOST_VERTICES: u32 = 1_048_576;
-
-/// How many of them the tree has.
-const IN_TREE: u32 = 70_001;
-
-/// A tree in three levels, in front of vertices without an edge. From each of its first 264 vertices edges of weight 2 lead to 265 others, and
-/// from the next vertex to 40.
-fn wide_tree(rt: &HostRuntime) -> Result<Vec<u8>, Fail> {
-    let mut grid = b"GGRID001\0\0\x10\0\x01\0\0\0\x70\x11\x01\0\0\0\0\0".to_vec(rt.alloc())?;
-    for child in 1..IN_TREE {
-        for field in [(child - 1) / 265, child, 2] {
-            grid.extend_from_slice(&field.to_le_bytes())?;
-        }
-    }
-    Ok(grid)
-}
-
-fn depth_in_tree(vertex: u32) -> Option<u32> {
-    match vertex {
-        0 => Some(0),
-        1..=265 => Some(1),
-        266..=70_000 => Some(2),
-        _ => None,
-    }
-}
-
-/// A share of 3,207,547 goes over each edge from a vertex with 265 of them, and of 21,250,000 over the 40 edges of the last one.
-fn rank_in_wide_tree(vertex: u32) -> u32 {
-    match vertex {
-        1..=69_960 => 153_207_547,
-        69_961..=70_000 => 171_250_000,
-        _ => 150_000_000,
-    }
-}
-
-fn value_in_wide_tree(words: &str, vertex: u32) -> Option<u32> {
-    match words {
-        "wcc" => Some(if vertex < IN_TREE { 0 } else { vertex }),
-        "rank 1" => Some(rank_in_wide_tree(vertex)),
-        "sssp 0" => depth_in_tree(vertex).map(|depth| 2 * depth),
-        _ => depth_in_tree(vertex),
-    }
-}
-
-/// A job's words, how many rounds it makes, and how many reads.
-const OVER_WIDE_TREE: [(&str, u32, u64); 4] = [
-    ("bfs 0", 3, 8),
-    ("sssp 0", 3, 8),
-    ("wcc", 3, 11),
-    ("rank 1", 1, 9),
-];
-
-#[test]
-fn the_most_vertices(rt: HostRuntime) -> Result<(), Fail> {
-    let grid = wide_tree(&rt)?;
-    for (words, rounds, reads) in OVER_WIDE_TREE {
-        let job = format!(in rt.alloc(); "job a {words}")?;
-        let mut report = format!(in rt.alloc(); "job a version 0 done rounds {rounds}\n")?;
-        for vertex in 0..MOST_VERTICES {
-            push_value(&rt, &mut report, vertex, value_in_wide_tree(words, vertex))?;
-        }
-        let ending = (0, report.as_bytes(), b"".as_slice());
-        check_run(
-            &rt,
-            "run a.grid j.txt 1 65536",
-            &grid,
-            job.as_bytes(),
-            ending,
-            reads,
-        )?;
-    }
     Ok(())
 }
